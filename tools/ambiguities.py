@@ -189,7 +189,7 @@ class Ambiguities:
         if declaration is None:
             return "the root calls the layout before the start symbol, and the start symbol is the layout"
         if declaration.kind == "layout" or declaration.name == self.layout:
-            return ("let the layout be as long as it can be: `!>>` behind its list, with the classes and literals that its items"
+            return ("let the layout be as long as it can be: `!>>` after its list, with the classes and literals that its items"
                     " begin with")
         if self.leads_back(choice.number):
             return "an alternative that is the name itself, or a list or an option of what may be nothing, has no end of trees: take it away"

@@ -10,13 +10,13 @@ NEAR = 32  # how exactly the part of an input is found that a budget is enough f
 MOST_BUDGET = 4_000_000
 
 
-def explain_budget(run, fits, text, budget, source):
+def explain_budget(run, fits, budget, source):
     """How far the input came, and where the items are: lines.
 
     `run(words)` gives what the program prints of the grammar or None, `fits(length, budget)` whether the items of a
     prefix are within a budget.
     """
-    tenth = max(1, budget // 10)
+    text, tenth = source.text, max(1, budget // 10)
     some, most = longest(fits, len(text), tenth), longest(fits, len(text), budget)
     lines = [f"{budget:,} items are enough for {said_length(source, most)}, of {len(text):,};",
              f"a tenth of them for {said_length(source, some)}."]
@@ -25,7 +25,7 @@ def explain_budget(run, fits, text, budget, source):
         lines += growth_lines(power, budget, len(text), most)
     core_text = run(["core"])
     if core_text is not None:
-        lines += count_lines(read_core(core_text), text)
+        lines += count_lines(read_core(core_text), source)
     return lines
 
 
@@ -58,9 +58,9 @@ def growth_lines(power, budget, length, most):
             "That comes of ambiguity (see `tools/query`), and of right recursion over long inputs (see `tools/lint`)."]
 
 
-def count_lines(core, text):
+def count_lines(core, source):
     """The declarations with the most items, in the first part of the text."""
-    items = Items(core, text, SAMPLE)
+    items = Items(core, source.text, SAMPLE, source.tabs)
     counts = {}
     for nonterminal, number in zip(core, items.counts):
         name = nonterminal.name.partition("#")[0]

@@ -7,6 +7,7 @@ answers aren't proved: who uses them sees first whether the report is the one th
 import re
 
 from grammar_tokens import CLASS, LITERAL, NAMED_CLASS, class_test, literal_text
+from source_text import column_behind
 
 SMALLEST, LARGEST = -(1 << 63), (1 << 63) - 1
 
@@ -151,10 +152,10 @@ class StepReader:
 
 
 class Evaluator:
-    """Values of expressions over a text."""
+    """Values of expressions over a text, with this width of tabs."""
 
-    def __init__(self, text):
-        self.text = text
+    def __init__(self, text, tabs=1):
+        self.text, self.tabs = text, tabs
         self.starts = [0] + [k + 1 for k, char in enumerate(text) if char == "\n"]
 
     def value(self, expr, names, here):
@@ -211,7 +212,7 @@ class Evaluator:
             return 0
         if not 0 <= at <= len(self.text):
             raise NoValue
-        return at - self.text.rfind("\n", 0, at)
+        return column_behind(self.text[self.text.rfind("\n", 0, at) + 1 : at], self.tabs)
 
     def line(self, at):
         if not 0 <= at <= len(self.text):
@@ -262,11 +263,11 @@ class Failed:
 
 
 class Items:
-    """The items of a text, up to as many as `most`; `whole` says whether these are all."""
+    """The items of a text with this width of tabs, up to as many as `most`; `whole` says whether these are all."""
 
-    def __init__(self, core, text, most):
+    def __init__(self, core, text, most, tabs=1):
         self.core, self.text, self.most = core, text, most
-        self.evaluator = Evaluator(text)
+        self.evaluator = Evaluator(text, tabs)
         self.number, self.counts, self.whole = 0, [0] * len(core), True
         self.rows = [None] * (len(text) + 1)  # by position: what begins a match behind a leaf; None where nothing does
         self.waiting = {}  # by instance and position: the items before its call

@@ -436,7 +436,7 @@ def in_alternative(source, stop):
     if token.is_sign("==", "!=", "<=", ">="):
         return ["Comparisons stand in expressions: `when (size(x) == 1)`."]
     if token.is_sign(*FILTERS):
-        return ["A filter stands behind the symbol of which it is asked: `X !>> P`."]
+        return ["A filter stands after the symbol of which it is asked: `X !>> P`."]
     if token.is_sign("}"):
         return ["This `}` closes no list. There are no actions: trees are all that a grammar gives."]
     if token.is_sign(")"):

@@ -104,10 +104,10 @@ class Declaration:
 
 
 class Grammar:
-    """A grammar text that was read: `start` is the token of its start symbol or None."""
+    """A grammar text that was read: `start` is the token of its start symbol or None, `tabs` the width of tabs or None."""
 
     def __init__(self, text):
-        self.text, self.start, self.declarations = text, None, []
+        self.text, self.start, self.tabs, self.declarations = text, None, None, []
 
     def named(self, name):
         """The first declaration of this name, or None."""
@@ -153,6 +153,15 @@ def operand_places(alternative):
 def read_grammar(text):
     """The grammar of a text; `Stops` where it can't be read."""
     return Reader(text).grammar()
+
+
+def tab_width(text):
+    """The width of tabs that a grammar says, where its text can be read; 1 where it says none."""
+    try:
+        tabs = read_grammar(text).tabs
+    except Stops:
+        tabs = None
+    return tabs if tabs is not None and 1 <= tabs <= 16 else 1
 
 
 class Reader:
@@ -225,9 +234,18 @@ class Reader:
             grammar.start = self.name()
             self.sign(";")
             self.closes()
+        if self.is_word("tabs"):
+            self.opens("tabs", self.token().begin)
+            self.take()
+            if not self.is_kind("number"):
+                self.stop("a number")
+            grammar.tabs = int(self.take().text)
+            self.sign(";")
+            self.closes()
         while self.token() is not None:
             if not self.is_word(*KINDS):
-                self.stop(*([] if grammar.start or grammar.declarations else ["`start`"]), "`syntax`", "`lexical`", "`layout`")
+                before = [] if grammar.tabs is not None or grammar.declarations else ["`tabs`"] if grammar.start else ["`start`", "`tabs`"]
+                self.stop(*before, "`syntax`", "`lexical`", "`layout`")
             grammar.declarations.append(self.declaration(len(grammar.declarations) + 1))
         if self.broken is not None:
             self.stop("`syntax`", "`lexical`", "`layout`")

@@ -37,7 +37,7 @@ def explain_no_parse(run, grammar, source, note):
 
 def items_as_told(core_text, source, at, patterns):
     """The items of the input, where they are few and their report is the program's; else None."""
-    found = Items(read_core(core_text), source.text, MOST_ITEMS)
+    found = Items(read_core(core_text), source.text, MOST_ITEMS, source.tabs)
     return found if found.whole and found.report() == (at, set(patterns) - {"nothing"}) else None
 
 
@@ -78,7 +78,7 @@ def stands(source, at, patterns):
     said = f"Here stands {char_name(source.text[at])}"
     read = [each for each in patterns if each[0] in '"[$' and Pattern(each).end(source.text, at) is not None]
     if read:
-        return f"{said}, which is read as {listed(read, 'and')}; what refused it comes behind that."
+        return f"{said}, which is read as {listed(read, 'and')}; what refused it comes after that."
     return f"{said}."
 
 

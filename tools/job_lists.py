@@ -12,7 +12,7 @@ def line_fault(line):
     if len(names) == 1:
         return "The line has no space, so it has one name."
     if b"" in names:
-        return "A space stands before the first name, behind the last one, or beside another space."
+        return "A space stands before the first name, after the last one, or beside another space."
     if len(names) > 2:
         return f"The line has {len(names)} names; a name of a file has no space here."
     for name in names:

@@ -14,8 +14,10 @@ from collections import OrderedDict
 from core_text import Core
 from forest_count import count_trees, is_ambiguous
 from forest_text import NotAForest, read_forest
+from grammar_text import tab_width
 from parts import Forested, View, read_tree
 from program import BUDGET, NO_DEPTH, PRINTED, USAGE, Ended, Run, find_program, put_texts, run
+from source_text import Source
 
 HERE = os.path.dirname(os.path.dirname(os.path.abspath(__file__)))
 EXAMPLE = re.compile(r"\| `([^`]+)` \| `([^`]+)` \| (?:\d+|infinite) \| (?:yes|no) \|")
@@ -202,7 +204,7 @@ def find_mark(said, grammar, text):
         carets = CARETS.search(said)
         return {"where": found[1], "begin": begin, "end": min(len(source), begin + (len(carets[1]) if carets else 1))}
     if found := NO_PARSE_AT.match(said):
-        begin = offset(text, int(found[1]), int(found[2]))
+        begin = Source("input", text, tab_width(grammar)).at(int(found[1]), int(found[2]))
         return {"where": "input", "begin": begin, "end": min(len(text), begin + 1)}
     if found := BYTE.match(said):
         begin = len(grammar.encode("utf-8", "surrogatepass")[:int(found[1])].decode("utf-8", "replace"))

@@ -253,7 +253,7 @@ def why_unseen(fault, name, seen):
             kind = FORMS[around[-1].form]
             return f"It is bound inside the {kind} of {fault.source.said(around[-1].begin)}, and seen only inside that."
         if symbol.begin > fault.found.begin:
-            return f"It is bound further right ({fault.source.said(symbol.begin)}), and seen only behind that."
+            return f"It is bound further right ({fault.source.said(symbol.begin)}), and seen only after that."
     if fault.grammar.named(name):
         return f"{name} is a declaration; a label, as `x: {name}`, binds what it covers, and `x` is the variable."
     near = difflib.get_close_matches(name, seen, 1, 0.5)

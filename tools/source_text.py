@@ -10,24 +10,30 @@ LEAST_BEFORE = 32  # of these, how many stand before the mark
 
 
 class Source:
-    """A text under a name. Places are numbers of characters before it; lines and columns count from 1."""
+    """A text under a name. Places are numbers of characters before it; lines and columns count from 1.
 
-    def __init__(self, name, text):
-        self.name, self.text = name, text
+    A tab moves to the next column that is 1 plus a multiple of `tabs`."""
+
+    def __init__(self, name, text, tabs=1):
+        self.name, self.text, self.tabs = name, text, tabs
         self.starts = [0] + [k + 1 for k, char in enumerate(text) if char == "\n"]
 
     def place(self, at):
         """The line and the column of a place."""
         line = bisect.bisect_right(self.starts, at)
-        return line, at - self.starts[line - 1] + 1
+        return line, column_behind(self.text[self.starts[line - 1] : at], self.tabs)
 
     def at(self, line, column):
         """The place in this line and column."""
-        return self.starts[line - 1] + column - 1
+        at, here = self.starts[line - 1], 1
+        while here < column and at < len(self.text):
+            here = next_column(self.text[at], here, self.tabs)
+            at += 1
+        return at
 
     def line_of(self, at):
         """The number of the line of a place."""
-        return self.place(at)[0]
+        return bisect.bisect_right(self.starts, at)
 
     def line(self, number):
         """The text of a line, without its end."""
@@ -36,9 +42,9 @@ class Source:
         return self.text[begin:] if end < 0 else self.text[begin:end]
 
     def named(self, at):
-        """The place as editors read it: `NAME:LINE:COLUMN`."""
-        line, column = self.place(at)
-        return f"{self.name}:{line}:{column}"
+        """The place as editors read it, each character as one column: `NAME:LINE:COLUMN`."""
+        line = self.line_of(at)
+        return f"{self.name}:{line}:{at - self.starts[line - 1] + 1}"
 
     def said(self, at):
         """The place in words."""
@@ -47,14 +53,29 @@ class Source:
 
     def marked(self, begin, end=None, number_width=0):
         """The line of a place, and a mark below the characters from there up to the end, as two lines."""
-        line, column = self.place(begin)
-        text, left = shortened(self.line(line), column - 1)
-        column -= left
+        line = self.line_of(begin)
+        text, left = shortened(self.line(line), begin - self.starts[line - 1])
+        column = begin - self.starts[line - 1] + 1 - left
         length = 1 if end is None else max(1, min(end - begin, len(text) - column + 1))
         label = str(line).rjust(number_width)
         before = "".join("\t" if char == "\t" else " " * width(char) for char in text[: column - 1])
         mark = "^" * max(1, sum(width(char) for char in text[column - 1 : column - 1 + length]))
         return [f"  {label} | {visible(text)}".rstrip(), f"  {' ' * len(label)} | {before}{mark}"]
+
+
+def next_column(char, column, tabs):
+    """The column behind a character that stands in this one."""
+    return (column - 1) // tabs * tabs + tabs + 1 if char == "\t" else column + 1
+
+
+def column_behind(text, tabs):
+    """The column behind a text that begins a line."""
+    if tabs == 1 or "\t" not in text:
+        return len(text) + 1
+    column = 1
+    for char in text:
+        column = next_column(char, column, tabs)
+    return column
 
 
 def shortened(line, column):

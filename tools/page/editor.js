@@ -1,6 +1,6 @@
 // A text area over the same text in colours, with marks.
 
-const WORDS = new Set(("start syntax lexical layout left right nonassoc offside ignore align when let here true false "
+const WORDS = new Set(("start tabs syntax lexical layout left right nonassoc offside ignore align when let here true false "
   + "and or not div mod int bool span").split(" "));
 const TOKEN = /(\/\/[^\n]*)|("(?:[^"\\\n]|\\.)*"?)|(\[(?:[^\]\\\n]|\\.)*\]?|\$[a-z_]+)|(\p{ID_Start}\p{ID_Continue}*)|([0-9]+)|(!>>|!<<|[-=|>:;,(){}?*+\\<!])/gu;
 const KINDS = [null, "comment", "string", "class", "name", "number", "sign"];

@@ -1,5 +1,6 @@
 -- What the facts of a core grammar's nonterminals say, and what that tells of its trees.
 use Rattle.std.specs.Prelude.{◌≡◌, ◌↔◌, ◌≤◌, ℕ, ◌+◌, ◌*◌, List, length, slice_get, Some, true, false}
+use Rattle.ig_text.specs.Input.{Input}
 use Rattle.ig_text.specs.Tree.{Tree, height}
 use Rattle.ig_expr.specs.declared.value.Value.{Value}
 use Rattle.ig_item.specs.CoreTrees.{HasTree, CoreTree}
@@ -30,10 +31,10 @@ NoneSaysRound facts =
 pub record TellOfTrees (core : List Nonterminal) (facts : List Fact) : Type 0 where
   -- a nonterminal that isn't productive has no tree
   pub unproductive : (n : ℕ) (fact : Fact) → slice_get facts n ≡ Some fact → fact.productive ≡ false →
-      (text : List ℕ) (vs : List Value) (i j : ℕ) (t : Tree) → HasTree core text n vs i j t → ⊥
+      (text : Input) (vs : List Value) (i j : ℕ) (t : Tree) → HasTree core text n vs i j t → ⊥
   -- where no literal is empty, one that isn't nullable has none over an empty span
   pub not_nullable : IsRegular core → (n : ℕ) (fact : Fact) → slice_get facts n ≡ Some fact → fact.nullable ≡ false →
-      (text : List ℕ) (vs : List Value) (i : ℕ) (t : Tree) → HasTree core text n vs i i t → ⊥
+      (text : Input) (vs : List Value) (i : ℕ) (t : Tree) → HasTree core text n vs i i t → ⊥
   -- where besides none is at once cyclic, productive and reachable, trees have a bounded height
-  pub bounded : IsRegular core → NoneSaysRound facts → (text : List ℕ) (t : Tree) → CoreTree core text t →
-      height t ≤ length core * (length text + 1)
+  pub bounded : IsRegular core → NoneSaysRound facts → (text : Input) (t : Tree) → CoreTree core text t →
+      height t ≤ length core * (length text.characters + 1)

@@ -1,5 +1,5 @@
 -- What the pass makes of declarations, one after another.
-use Rattle.std.proofs.Common.{◌≡◌, ◌∙◌, ℕ, suc, ◌+◌, ◌<◌, List, [], ◌∷◌, ◌++◌, Bool, true, false, not, ◌&&◌, Option, length, drop, get_or, map, refl, sym, ap, ap₂, arith, drop-cons, append_assoc, if◌then◌else◌}
+use Rattle.std.proofs.Common.{◌≡◌, ◌∙◌, ℕ, suc, ◌+◌, ◌<◌, List, [], ◌∷◌, ◌++◌, Bool, true, false, not, ◌&&◌, length, drop, get_or, map, refl, sym, ap, ap₂, arith, drop-cons, append_assoc, if◌then◌else◌}
 use Rattle.std.proofs.lemmas.List.{append-nil}
 use Rattle.ig_grammar.specs.Checked.{CheckedGrammar}
 use Rattle.ig_grammar.specs.declared.declaration.DeclKind.TheVariants.{Syntax}
@@ -24,12 +24,12 @@ declaration_is s shape d paired name params levels ep en eq el =
     go true = λ k. record { kind = d.kind; name = d.name; params = append-nil d.params k; levels = map (level_by s lacking) d.levels }
     go false = refl
 
-pub grammar_is : (g other : Grammar) (shapes : List Shape) (xs ys : List Decl) (s : Setting) (start : Option (List ℕ)) (decls : List Decl) → other ≡ g → xs ≡ other.decls → ys ≡ other.decls →
-    s ≡ setting_of xs shapes → start ≡ other.start → decls ≡ lowered_declarations s shapes ys → record { start = start; decls = decls } ≡ lowered_grammar g shapes
-grammar_is g other shapes xs ys s start decls same ex ey es et ed =
-    let all : decls ≡ lowered_declarations (setting_of g.decls shapes) shapes g.decls =
+pub grammar_is : (g other : Grammar) (shapes : List Shape) (xs ys : List Decl) (s : Setting) (made : Grammar) → other ≡ g → xs ≡ other.decls → ys ≡ other.decls →
+    s ≡ setting_of xs shapes → made.start ≡ other.start → made.tabs ≡ other.tabs → made.decls ≡ lowered_declarations s shapes ys → made ≡ lowered_grammar g shapes
+grammar_is g other shapes xs ys s made same ex ey es et ew ed =
+    let all : made.decls ≡ lowered_declarations (setting_of g.decls shapes) shapes g.decls =
     ed ∙ ap₂ (λ t zs. lowered_declarations t shapes zs) (es ∙ ap (λ zs. setting_of zs shapes) (ex ∙ ap (λ (z : Grammar). z.decls) same)) (ey ∙ ap (λ (z : Grammar). z.decls) same) in
-    λ k. record { start = (et ∙ ap (λ (z : Grammar). z.start) same) k; decls = all k }
+    λ k. record { start = (et ∙ ap (λ (z : Grammar). z.start) same) k; tabs = (ew ∙ ap (λ (z : Grammar). z.tabs) same) k; decls = all k }
 
 module _ (s : Setting) (shapes : List Shape) (decls : List Decl) (beside : length shapes ≡ length decls) where
   pub declaration_more : (done new whole : List Decl) (i : ℕ) (d : Decl) (r shape : Shape) (z : Decl) → i < length decls →

@@ -59,15 +59,23 @@ fn lower_grammar(alloc: Global, checked: &Checked) -> Result<Grammar, AllocError
     let guide = guide_of(alloc, grammar.decls.as_slice(), checked)?;
     let decls = lower_declarations(alloc, &guide, grammar.decls.as_slice(), checked);
     drop(guide);
-    with_start(alloc, &grammar.start, decls?)
+    with_start(alloc, grammar, decls?)
 }
 
-/// The declarations, with the start.
-fn with_start(alloc: Global, start: &Option<Word>, decls: Decls) -> Result<Grammar, AllocError>
-    ensures { IfOk result (λ r. r ≡ record { start = start.now; decls = decls }) }
+/// The declarations, with the start and the width of tabs of the grammar.
+fn with_start(alloc: Global, grammar: &Grammar, decls: Decls) -> Result<Grammar, AllocError>
+    ensures { IfOk result (λ r. r ≡ record {
+      start = grammar.now.start;
+      tabs = grammar.now.tabs;
+      decls = decls;
+    }) }
 {
-    match copy_of_start(alloc, start) {
-        Ok(start) => Ok(Grammar { start, decls }),
+    match copy_of_start(alloc, &grammar.start) {
+        Ok(start) => Ok(Grammar {
+            start,
+            tabs: grammar.tabs,
+            decls,
+        }),
         Err(refused) => {
             drop(decls);
             Err(refused)

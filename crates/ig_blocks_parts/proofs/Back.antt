@@ -2,6 +2,7 @@
 use Rattle.std.proofs.Common.{◌≡◌, ◌≢◌, ◌⊎◌, ◌<◌, ◌≤◌, ◌∙◌, ℕ, zero, suc, ◌+◌, Bool, true, false, List, [], ◌∷◌, ◌++◌, map, length, Option, Some, None, Contains, refl, sym, ap, ap₂, subst, inl, inr, arith}
 use Rattle.std.proofs.lemmas.Option.{slice_get_within}
 use Rattle.std.proofs.lemmas.List.{map-append}
+use Rattle.ig_text.specs.Input.{Input}
 use Rattle.ig_text.specs.Lines.{column_of}
 use Rattle.ig_text.specs.Tree.{Tree, Trees, Node, one, join}
 use Rattle.ig_text.proofs.Trees.{join-none}
@@ -36,7 +37,7 @@ use Rattle.ig_blocks_parts.proofs.Tests.{Fits, fits_none, fits_join, fits_expose
 use Rattle.ig_blocks_parts.proofs.Forth.{pair_steady, read_values, extra_had, no_extra}
 use Rattle.ig_blocks_parts.proofs.Standing.{column_in, start_in, situated_in, Row, last, tested, Behind, behind, Standing, alone, back_of, standing}
 
-module _ (s : Setting) (apart : AreApart s) (g g2 : Grammar) (shapes shapes2 : List Shape) (text : List ℕ) (takes : Takes s g g2 shapes shapes2) where
+module _ (s : Setting) (apart : AreApart s) (g g2 : Grammar) (shapes shapes2 : List Shape) (text : Input) (takes : Takes s g g2 shapes shapes2) where
   -- of an aligned list also that its items stand in one column
   abbrev pub Sourced : Bool → DeclKind → Symbol → Environment → ℕ → ℕ → ℕ → Trees → Environment → List ℕ → Type 0
   Sourced false c x env i e j ts after starts = Derives g shapes text c x env i e j ts after starts
@@ -365,7 +366,7 @@ module _ (s : Setting) (apart : AreApart s) (g g2 : Grammar) (shapes shapes2 : L
           fits = fits_exposed (s.paired Syntax) text c m f i (guards_allow s text p m f other i at.holds at.before at.within (subst (AreTrue s text other i) is true_tests));
         }
     from_derives (one_of c class other i e j us ts starts among trails trees exposes) al p m f env x gs (low.one_of p2 class2 gs2 proper is) at true_tests =
-        let here : i < length text = slice_get_within text i among.character among.there in
+        let here : i < length text.characters = slice_get_within text.characters i among.character among.there in
         let next : e ≡ i + 1 = among.next in
         record {
           after = env;
@@ -594,7 +595,7 @@ module _ (s : Setting) (apart : AreApart s) (g g2 : Grammar) (shapes shapes2 : L
         let wo2 = takes.in_order g2 shapes2 text in let o2 = wo2.derives part in
         let a = from_lists list al p m f env (SepPlus x2 sep) (low.sep_pluses al p x2 z sep sep2 steady it it2) at k col in
         let there = situated_later s text env other env other p m f i h steady (omega (arith, o.begins, o.ends)) (o.within at.within) at.agree (keep_all s other) at in
-        let past : n ≤ length text = o2.within (o.within at.within) in
+        let past : n ≤ length text.characters = o2.within (o.within at.within) in
         let there2 = situated_later s text env other env other p m f i n steady (omega (arith, o.begins, o.ends, o2.begins, o2.ends)) past at.agree (keep_all s other) at in
         let d = item_back c false p sep sep2 env other m f h q n us between there.before (standing s c false p sep sep2 it2)
         (λ l. from_derives part (is_aligned sep) (pair_in s p sep) (column_in text h sep m f) (start_in text h sep m f) env (reading.bare sep) [] l (situated_in s text sep env other p m f h there) tt)
@@ -619,7 +620,7 @@ module _ (s : Setting) (apart : AreApart s) (g g2 : Grammar) (shapes shapes2 : L
 
     pub from_instance : {name : List ℕ} {ws : List Value} {kind : DeclKind} {i e : ℕ} {t : Tree} {starts : List ℕ} →
         Instance g2 shapes2 text name ws kind i e t starts → (kd : DeclKind) → s.kind_of name ≡ Some kd → (vs : List Value) (m : ℕ) (f : Option ℕ) →
-        ws ≡ vs ++ pair_args s text (s.paired kd) m f → (s.paired kd ≡ false → (m ≡ 0) × (f ≡ None)) → IsBefore f i → i ≤ length text →
+        ws ≡ vs ++ pair_args s text (s.paired kd) m f → (s.paired kd ≡ false → (m ≡ 0) × (f ≡ None)) → IsBefore f i → i ≤ length text.characters →
         InstanceSource name vs kind m f i e t
     from_instance (alternative name ws kind d k new shape b other left i e ts t starts declares numbered bound same covers tree) kd known vs m f split unpaired before within =
         let old = takes.back name kd d k new shape b known declares numbered in
@@ -637,7 +638,7 @@ module _ (s : Setting) (apart : AreApart s) (g g2 : Grammar) (shapes shapes2 : L
         remade kind kd name vs d k decl new shape a b w.env other m f i e ts left same old.2 old.3 made w.bound
         (from_covers covers (pair_by (s.paired kd)) m f w.env a.alternative.symbols (pair_steady (s.paired kd)) cv at) t tree
 
-    pub from_trails : {c : DeclKind} {e j : ℕ} {ts : Trees} → Trails g2 shapes2 text c e j ts → e ≤ length text → Trails g shapes text c e j ts
+    pub from_trails : {c : DeclKind} {e j : ℕ} {ts : Trees} → Trails g2 shapes2 text c e j ts → e ≤ length text.characters → Trails g shapes text c e j ts
     from_trails (layout name kind e j t starts declared instance) within =
         let there = sym takes.layout ∙ declared in
         let r = from_instance instance Layout (takes.layout_kind name there) [] 0 None (sym (no_extra s apart g g2 shapes shapes2 text takes [] (s.paired Layout) 0 None takes.layout_unpaired)) (λ z. (refl, refl)) (omega arith) within in

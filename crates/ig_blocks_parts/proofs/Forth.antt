@@ -2,6 +2,7 @@
 use Rattle.std.proofs.Common.{◌≡◌, ◌≢◌, ◌⊎◌, ◌<◌, ◌≤◌, ◌∙◌, ℕ, ◌+◌, Bool, true, false, List, [], ◌∷◌, ◌++◌, map, length, Option, Some, None, Contains, refl, sym, ap, subst, inl, inr, arith}
 use Rattle.std.proofs.lemmas.Option.{slice_get_within}
 use Rattle.std.proofs.lemmas.List.{append-nil, map-append}
+use Rattle.ig_text.specs.Input.{Input}
 use Rattle.ig_text.specs.Lines.{column_of}
 use Rattle.ig_text.specs.Tree.{Tree, Trees, Node, none, one}
 use Rattle.ig_text.proofs.Trees.{join-none}
@@ -48,7 +49,7 @@ exposed_allowed : (P : ℕ → Type 0) (c : DeclKind) (i : ℕ) (starts : List �
 exposed_allowed P c i starts e all same =
     all i (subst (λ z. Contains z i) (sym e) (subst (λ z. Contains (exposed z i) i) (sym same) (it_is_in i)))
 
-module _ (s : Setting) (apart : AreApart s) (g g2 : Grammar) (shapes shapes2 : List Shape) (text : List ℕ) (takes : Takes s g g2 shapes shapes2) where
+module _ (s : Setting) (apart : AreApart s) (g g2 : Grammar) (shapes shapes2 : List Shape) (text : Input) (takes : Takes s g g2 shapes shapes2) where
   pub record Target (c : DeclKind) (gs : List Symbol) (y : Symbol) (other : Environment) (i e j : ℕ) (ts : Trees) (after : Environment) : Type 0 where
     pub left : Environment
     pub exposes : List ℕ
@@ -252,9 +253,9 @@ module _ (s : Setting) (apart : AreApart s) (g g2 : Grammar) (shapes shapes2 : L
           tests = subst (AreTrue s text other i) (sym tests) (allowed_guards s text c p m f other i proper at.holds at.before at.within (exposed_allowed (Allows text m f) c i starts exposes all));
         }
     to_derives (one_of c class env i e j us ts starts among trails trees exposes) p m f other gs y (low.one_of p2 class2 gs2 proper tests) at all =
-        let here : i < length text = slice_get_within text i among.character among.there in
+        let here : i < length text.characters = slice_get_within text.characters i among.character among.there in
         let next : e ≡ i + 1 = among.next in
-        let inner_end : e ≤ length text = omega (arith, next, here) in
+        let inner_end : e ≤ length text.characters = omega (arith, next, here) in
         record {
           left = other;
           exposes = starts;
@@ -441,7 +442,7 @@ module _ (s : Setting) (apart : AreApart s) (g g2 : Grammar) (shapes shapes2 : L
         let front = each_left (Allows text m f) (ks ++ ms) ls starts exposes all in
         let a = to_lists list al p m f other (SepPlus z z2) (low.sep_pluses al p x z separator z2 steady it it2) at k col (λ b. each_left (λ q2. column_of text q2 ≡ k) ps (n ∷ []) items begin (columns b)) (each_left (Allows text m f) ks ms (ks ++ ms) refl front) in
         let there = situated_later s text env other env other p m f i h steady (omega (arith, o.begins, o.ends)) (o.within at.within) at.agree (keep_all s other) at in
-        let past : n ≤ length text = o2.within (o.within at.within) in
+        let past : n ≤ length text.characters = o2.within (o.within at.within) in
         let there2 = situated_later s text env other env other p m f i n steady (omega (arith, o.begins, o.ends, o2.begins, o2.ends)) past at.agree (keep_all s other) at in
         let b = item_forth c false p separator z2 other h q n us between it2 tt
         (λ gs3 z3 l. to_derives part p m f other gs3 z3 l there (each_right (Allows text m f) ks ms (ks ++ ms) refl front)) in
@@ -486,7 +487,7 @@ module _ (s : Setting) (apart : AreApart s) (g g2 : Grammar) (shapes shapes2 : L
 
     pub to_instance : {name : List ℕ} {vs : List Value} {kind : DeclKind} {i e : ℕ} {t : Tree} {starts : List ℕ} →
         Instance g shapes text name vs kind i e t starts → (kd : DeclKind) → s.kind_of name ≡ Some kd → (m : ℕ) (f : Option ℕ) →
-        (s.paired kd ≡ false → (m ≡ 0) × (f ≡ None)) → IsBefore f i → i ≤ length text → Each (Allows text m f) starts →
+        (s.paired kd ≡ false → (m ≡ 0) × (f ≡ None)) → IsBefore f i → i ≤ length text.characters → Each (Allows text m f) starts →
         InstanceTarget name (vs ++ pair_args s text (s.paired kd) m f) kind i e t
     to_instance (alternative name vs kind d k decl shape a env after i e ts t starts declares numbered bound same covers tree) kd known m f unpaired before within all =
         let is : decl.kind ≡ kd = takes.kinds name kd d decl shape known declares in
@@ -500,7 +501,7 @@ module _ (s : Setting) (apart : AreApart s) (g g2 : Grammar) (shapes shapes2 : L
         (situated_first s text apart (s.paired kd) m f i bound made.written unpaired before within) all)
         t tree
 
-    pub to_trails : {c : DeclKind} {e j : ℕ} {ts : Trees} → Trails g shapes text c e j ts → e ≤ length text → Trails g2 shapes2 text c e j ts
+    pub to_trails : {c : DeclKind} {e j : ℕ} {ts : Trees} → Trails g shapes text c e j ts → e ≤ length text.characters → Trails g2 shapes2 text c e j ts
     to_trails (layout name kind e j t starts declared instance) within =
         let known = takes.layout_kind name declared in
         let r = to_instance instance Layout known 0 None (λ z. (refl, refl)) (omega arith) within (λ q h. all_allowed text q) in

@@ -170,6 +170,7 @@ module _ (ask : SymbolsAsk) (elsewhere : AsksElsewhere) (found : DeclarationsAre
         fresh = λ e m l. none_in_nil e m;
         apart = λ i j name p q. absurd (cc);
         start = refl;
+        tabs = refl;
         bare = λ k d e at there start. by_place (λ x y. y.params ≡ x.params) k d e at there (λ sh shaped. bare k d sh at shaped start);
       }
     where

@@ -1,5 +1,6 @@
 -- In the trees of a derivation positions are in order and within the text, and so are those of trees with values.
 use Rattle.std.proofs.Common.{◌≡◌, ℕ, List, length, sym, subst, arith}
+use Rattle.ig_text.specs.Input.{Input}
 use Rattle.ig_text.specs.Tree.{Tree, Trees, Leaf, Node, none, more, join}
 use Rattle.ig_expr.specs.ValuedTree as valued
 use Rattle.ig_expr.specs.declared.value.Value.{Value}
@@ -59,9 +60,9 @@ module _ (n : ℕ) where
   trailed : (i e j : ℕ) → IsInOrder n i e e → IsInOrder n e j j → IsInOrder n i e j
   trailed i e j o p = record { begins = o.begins; ends = p.begins; within = λ l. p.within (o.within l) }
 
-module _ (in_order : SpansAreInOrder) (g : Grammar) (shapes : List Shape) (text : List ℕ) where
+module _ (in_order : SpansAreInOrder) (g : Grammar) (shapes : List Shape) (text : Input) where
   abbrev n : ℕ
-  n = length text
+  n = length text.characters
 
   spans : SpansInOrder g shapes text
   spans = in_order g shapes text
@@ -131,9 +132,9 @@ module _ (in_order : SpansAreInOrder) (g : Grammar) (shapes : List Shape) (text 
     trails_ordered (outside c e other) = tt
 
 -- symbols whose trees are ordered, with values, end in order
-module _ (g : Grammar) (shapes : List Shape) (text : List ℕ) where
+module _ (g : Grammar) (shapes : List Shape) (text : Input) where
   abbrev size : ℕ
-  size = length text
+  size = length text.characters
 
   pub within_spans : {name : List ℕ} {vs : List Value} {kind : DeclKind} {i e : ℕ} {t : valued.Tree} →
       Within g shapes text name vs kind i e t → IsOrdered size (valued.bare_tree t) → IsInOrder size i e e

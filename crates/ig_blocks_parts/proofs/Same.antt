@@ -1,5 +1,6 @@
 -- Both directions for permitted trees, and their values.
 use Rattle.std.proofs.Common.{◌≡◌, ◌∙◌, ◌↔◌, ℕ, List, [], None, length, refl, sym, ap, subst, arith}
+use Rattle.ig_text.specs.Input.{Input}
 use Rattle.ig_text.specs.Tree.{Tree}
 use Rattle.ig_text.specs.Tree as plain
 use Rattle.ig_text.specs.declared.tag.Tag.TheVariants.{Root}
@@ -19,11 +20,11 @@ use Rattle.ig_blocks_parts.proofs.Back.{from_covers}
 use Rattle.ig_blocks_parts.proofs.Ordered.{AllOrdered, covers_ordered}
 use Rattle.ig_blocks_parts.proofs.ValuesForth.{to_bind}
 
-at_root : (s : Setting) (text : List ℕ) → Situated s text [] [] lacking 0 None 0
+at_root : (s : Setting) (text : Input) → Situated s text [] [] lacking 0 None 0
 at_root s text =
     record { agree = record { same = λ x w. refl }; holds = record { column = refl; start = refl }; before = omega arith; within = omega arith }
 
-pub same_trees : (s : Setting) (g h : Grammar) (shapes others : List Shape) (text : List ℕ) (t : Tree) → AreApart s → Takes s g h shapes others →
+pub same_trees : (s : Setting) (g h : Grammar) (shapes others : List Shape) (text : Input) (t : Tree) → AreApart s → Takes s g h shapes others →
     TakesRoot s g h shapes others → (Clean g t ↔ Clean h t) → (Permitted g shapes text t ↔ Permitted h others text t)
 same_trees s g h shapes others text t apart takes root clean = (
   (λ p.
@@ -40,13 +41,13 @@ same_trees s g h shapes others text t apart takes root clean = (
 children_same : (ts us : plain.Trees) (n : ℕ) (t : Tree) → plain.Node Root 0 n ts ≡ t → t ≡ plain.Node Root 0 n us → us ≡ ts
 children_same ts us n t p q = let both : plain.Node Root 0 n ts ≡ plain.Node Root 0 n us = p ∙ q in cc
 
-pub same_values : (s : Setting) (g h : Grammar) (shapes others : List Shape) (text : List ℕ) (t : Tree) (u : valued.Tree) → AreApart s → Takes s g h shapes others →
+pub same_values : (s : Setting) (g h : Grammar) (shapes others : List Shape) (text : Input) (t : Tree) (u : valued.Tree) → AreApart s → Takes s g h shapes others →
     TakesRoot s g h shapes others → Permitted g shapes text t → Annotates g shapes text t u → Annotates h others text t u
 same_values s g h shapes others text t u apart takes root p v =
     let r = root.forth v.kind v.symbols v.root in
     let children : p.children ≡ valued.bare_trees v.children =
-    children_same (valued.bare_trees v.children) p.children (length text) t (ap valued.bare_tree (sym v.whole) ∙ v.same) p.whole in
-    let ordered = subst (AllOrdered (length text)) children (covers_ordered takes.in_order g shapes text p.covered) in
+    children_same (valued.bare_trees v.children) p.children (length text.characters) t (ap valued.bare_tree (sym v.whole) ∙ v.same) p.whole in
+    let ordered = subst (AllOrdered (length text.characters)) children (covers_ordered takes.in_order g shapes text p.covered) in
     let d = to_bind s apart g h shapes others text takes v.binds ordered lacking 0 None [] r.0 tt r.2 (at_root s text) in
     record {
       kind = v.kind;
@@ -55,6 +56,6 @@ same_values s g h shapes others text t u apart takes root p v =
       after = d.grown;
       root = r.1;
       binds = d.bind;
-      whole = v.whole ∙ ap (λ z. valued.Node Root (bound_between [] z) 0 (length text) v.children) d.source;
+      whole = v.whole ∙ ap (λ z. valued.Node Root (bound_between [] z) 0 (length text.characters) v.children) d.source;
       same = v.same;
     }

@@ -1,6 +1,7 @@
 -- A pair with its values where a symbol stands, and how it changes under marks, along a sequence and inside a list.
 use Rattle.std.proofs.Common.{◌≡◌, ◌≢◌, ◌≤◌, ◌∙◌, ℕ, Bool, true, false, List, [], ◌∷◌, ◌++◌, map, length, Option, Some, None, refl, sym, ap, ap₂, subst, arith, pos}
 use Rattle.std.proofs.lemmas.List.{map-append}
+use Rattle.ig_text.specs.Input.{Input}
 use Rattle.ig_text.specs.Lines.{column_of}
 use Rattle.ig_expr.specs.Expression.{Expression}
 use Rattle.ig_expr.specs.Evaluation.{with_two}
@@ -39,7 +40,7 @@ start_none : (f : Option ℕ) → Some (start_int None) ≡ Some (start_int f) �
 start_none None e = refl
 start_none (Some p) e = absurd (cc)
 
-module _ (s : Setting) (text : List ℕ) where
+module _ (s : Setting) (text : Input) where
   -- the pair has these values
   pub record Holds (p : Pair) (m : ℕ) (f : Option ℕ) (env : Environment) (here : ℕ) : Type 0 where
     pub column : HasValue text env here (m_of s p) (int m)
@@ -50,7 +51,7 @@ module _ (s : Setting) (text : List ℕ) where
     pub agree : Agree s env other
     pub holds : Holds p m f other i
     pub before : IsBefore f i
-    pub within : i ≤ length text
+    pub within : i ≤ length text.characters
 
   before_later : (f : Option ℕ) (i h : ℕ) → i ≤ h → IsBefore f i → IsBefore f h
   before_later None i h le b = omega arith
@@ -66,7 +67,7 @@ module _ (s : Setting) (text : List ℕ) where
 
   -- further on in a sequence
   pub situated_later : (env other env2 other2 : Environment) (p : Pair) (m : ℕ) (f : Option ℕ) (i h : ℕ) → IsSteady p → i ≤ h →
-      h ≤ length text → Agree s env2 other2 → Keep s other other2 → Situated env other p m f i → Situated env2 other2 p m f h
+      h ≤ length text.characters → Agree s env2 other2 → Keep s other other2 → Situated env other p m f i → Situated env2 other2 p m f h
   situated_later env other env2 other2 p m f i h steady le within agree keep at =
       record {
         agree = agree;
@@ -153,7 +154,7 @@ module _ (s : Setting) (text : List ℕ) where
   pair_values_had cleared m f other i h =
       next_value (m_of s cleared) (f_of s cleared ∷ []) (int m) (start_int f ∷ []) h.column (next_value (f_of s cleared) [] (start_int f) [] h.start no_values)
 
-  pub column_value_had : (al : Bool) (other : Environment) (i : ℕ) → i ≤ length text →
+  pub column_value_had : (al : Bool) (other : Environment) (i : ℕ) → i ≤ length text.characters →
       HaveValues text other i (map (λ b. b.value) (column_bindings s al)) (column_values al (column_of text i))
   column_value_had false other i within = no_values
   column_value_had true other i within =
@@ -190,7 +191,7 @@ module _ (s : Setting) (text : List ℕ) where
 
     -- inside a list, an option or a group, behind other bindings
     inside_pair : (env other home : Environment) (p : Pair) (m : ℕ) (f : Option ℕ) (i : ℕ) → Agree s env home → Keep s other home →
-        IsBefore f i → i ≤ length text → Holds p m f other i →
+        IsBefore f i → i ≤ length text.characters → Holds p m f other i →
         Situated env (replaced home (pair_bindings s p) (pair_values p m f)) (inner p) m f i
     inside_pair env other home lacking m f i agree keep before within holds =
         record { agree = agree; holds = record { column = holds.column; start = holds.start }; before = before; within = within }
@@ -244,7 +245,7 @@ module _ (s : Setting) (text : List ℕ) where
         subst (λ z. IsInside env z al p m f i) (sym same) there
 
     -- the values of the bindings of a box
-    pub box_values : (other : Environment) (al : Bool) (p : Pair) (m : ℕ) (f : Option ℕ) (i : ℕ) → i ≤ length text → Holds p m f other i →
+    pub box_values : (other : Environment) (al : Bool) (p : Pair) (m : ℕ) (f : Option ℕ) (i : ℕ) → i ≤ length text.characters → Holds p m f other i →
         HaveValues text other i (map (λ b. b.value) (pair_bindings s p ++ column_bindings s al)) (pair_values p m f ++ column_values al (column_of text i))
     box_values other al p m f i within holds =
         subst (λ es. HaveValues text other i es (pair_values p m f ++ column_values al (column_of text i))) (sym (map-append (λ b. b.value) (pair_bindings s p) (column_bindings s al)))

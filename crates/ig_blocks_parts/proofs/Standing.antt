@@ -1,5 +1,6 @@
 -- A symbol in place, alone or behind tests; the pair under the marks round a symbol.
 use Rattle.std.proofs.Common.{◌≡◌, ◌∙◌, ℕ, Bool, true, false, List, [], ◌∷◌, ◌++◌, Option, Some, None, refl, sym, ap, subst}
+use Rattle.ig_text.specs.Input.{Input}
 use Rattle.ig_expr.specs.Expression.{Expression}
 use Rattle.ig_grammar.specs.Symbol.{Symbol, Seq, Guard, Offside, Ignore, Symbols, listed, gathered}
 use Rattle.ig_meaning.specs.Environment.{Environment}
@@ -13,17 +14,17 @@ use Rattle.ig_blocks_parts.proofs.Lowered.{Lowered, Placed, Item, Listing, Cover
 use Rattle.ig_blocks_parts.proofs.Situations.{Situated, situated_opened, situated_cleared}
 
 -- the values of the pair under the marks round a symbol that starts at i
-abbrev pub column_in : List ℕ → ℕ → Symbol → ℕ → Option ℕ → ℕ
+abbrev pub column_in : Input → ℕ → Symbol → ℕ → Option ℕ → ℕ
 column_in text i (Offside x) m f = column_in text i x (outer_column text i m f) (Some i)
 column_in text i (Ignore x) m f = column_in text i x 0 None
 column_in text i x m f = m
 
-abbrev pub start_in : List ℕ → ℕ → Symbol → ℕ → Option ℕ → Option ℕ
+abbrev pub start_in : Input → ℕ → Symbol → ℕ → Option ℕ → Option ℕ
 start_in text i (Offside x) m f = start_in text i x (outer_column text i m f) (Some i)
 start_in text i (Ignore x) m f = start_in text i x 0 None
 start_in text i x m f = f
 
-pub situated_in : (s : Setting) (text : List ℕ) (x : Symbol) (env other : Environment) (p : Pair) (m : ℕ) (f : Option ℕ) (i : ℕ) → Situated s text env other p m f i →
+pub situated_in : (s : Setting) (text : Input) (x : Symbol) (env other : Environment) (p : Pair) (m : ℕ) (f : Option ℕ) (i : ℕ) → Situated s text env other p m f i →
     Situated s text env other (pair_in s p x) (column_in text i x m f) (start_in text i x m f) i
 situated_in s text (Offside x) env other p m f i at =
     situated_in s text x env other (opened_by s p) (outer_column text i m f) (Some i) i (situated_opened s text env other p m f i at)

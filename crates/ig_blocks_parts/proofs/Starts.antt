@@ -1,6 +1,7 @@
 -- Where exposed starts lie, and where the items of a list start.
 use Rattle.std.proofs.Common.{◌≡◌, ◌⊎◌, ◌≤◌, ℕ, List, [], ◌∷◌, ◌++◌, Contains, refl, sym, subst, inl, inr, arith}
 use Rattle.std.proofs.lemmas.List.Elements.{Contains-append_left, Contains-append_right, Contains-append_cases}
+use Rattle.ig_text.specs.Input.{Input}
 use Rattle.ig_text.specs.Tree.{Tree, Trees}
 use Rattle.ig_text.proofs.Lists.{it_is_in, contains_one}
 use Rattle.ig_expr.specs.declared.value.Value.{Value}
@@ -56,7 +57,7 @@ exposed_after Lexical i xs e = subst (After i) (sym e) (each_none (λ q. i ≤ q
 exposed_after Layout i xs e = subst (After i) (sym e) (each_none (λ q. i ≤ q))
 exposed_after Plain i xs e = subst (After i) (sym e) (each_none (λ q. i ≤ q))
 
-module _ (in_order : SpansAreInOrder) (g : Grammar) (shapes : List Shape) (text : List ℕ) where
+module _ (in_order : SpansAreInOrder) (g : Grammar) (shapes : List Shape) (text : Input) where
   begins : {c : DeclKind} {x : Symbol} {env after : Environment} {i e j : ℕ} {ts : Trees} {starts : List ℕ} →
       Derives g shapes text c x env i e j ts after starts → i ≤ j
   begins d = let w = in_order g shapes text in let o = w.derives d in omega (arith, o.begins, o.ends)

@@ -4,6 +4,7 @@ use Rattle.std.proofs.Common.{◌≡◌, ◌≢◌, ◌≤◌, ◌∙◌, ℕ, s
 use Rattle.std.proofs.lemmas.List.{append-nil}
 use Rattle.std.specs.Prelude.{nat_eq}
 use Rattle.std.proofs.lemmas.Bool.Decides.{eqb_tells}
+use Rattle.ig_text.specs.Input.{Input}
 use Rattle.ig_text.specs.Lines.{column_of}
 use Rattle.ig_text.proofs.Characters.{differs}
 use Rattle.ig_expr.specs.Expression.{Expression}
@@ -32,19 +33,19 @@ use Rattle.ig_blocks_parts.proofs.Starts.{Each, each_none, each_one, each_join}
 use Rattle.ig_blocks_parts.proofs.Situations.{int, start_int, Holds, Situated, HasColumn, lacking_values, cleared_values}
 
 -- in a declaration of kind c the exposed starts are allowed, and there are none where the declaration is no syntax one
-pub record Fits (marked : Bool) (text : List ℕ) (c : DeclKind) (m : ℕ) (f : Option ℕ) (starts : List ℕ) : Type 0 where
+pub record Fits (marked : Bool) (text : Input) (c : DeclKind) (m : ℕ) (f : Option ℕ) (starts : List ℕ) : Type 0 where
   pub allowed : Each (Allows text m f) starts
   pub silent : marked ≡ true → c ≢ Syntax → Each (λ q. ⊥) starts
 
-pub fits_none : (marked : Bool) (text : List ℕ) (c : DeclKind) (m : ℕ) (f : Option ℕ) → Fits marked text c m f []
+pub fits_none : (marked : Bool) (text : Input) (c : DeclKind) (m : ℕ) (f : Option ℕ) → Fits marked text c m f []
 fits_none marked text c m f = record { allowed = each_none (Allows text m f); silent = λ k h. each_none (λ q. ⊥) }
 
-pub fits_join : (marked : Bool) (text : List ℕ) (c : DeclKind) (m : ℕ) (f : Option ℕ) (xs ys zs : List ℕ) → zs ≡ xs ++ ys → Fits marked text c m f xs →
+pub fits_join : (marked : Bool) (text : Input) (c : DeclKind) (m : ℕ) (f : Option ℕ) (xs ys zs : List ℕ) → zs ≡ xs ++ ys → Fits marked text c m f xs →
     Fits marked text c m f ys → Fits marked text c m f zs
 fits_join marked text c m f xs ys zs e a b =
     record { allowed = each_join (Allows text m f) xs ys zs e a.allowed b.allowed; silent = λ k h. each_join (λ q. ⊥) xs ys zs e (a.silent k h) (b.silent k h) }
 
-pub fits_exposed : (marked : Bool) (text : List ℕ) (c : DeclKind) (m : ℕ) (f : Option ℕ) (i : ℕ) → Allows text m f i → Fits marked text c m f (exposed c i)
+pub fits_exposed : (marked : Bool) (text : Input) (c : DeclKind) (m : ℕ) (f : Option ℕ) (i : ℕ) → Allows text m f i → Fits marked text c m f (exposed c i)
 fits_exposed marked text Syntax m f i a = record { allowed = each_one (Allows text m f) i a; silent = λ k h. absurd (h refl) }
 fits_exposed marked text Lexical m f i a = fits_none marked text Lexical m f
 fits_exposed marked text Layout m f i a = fits_none marked text Layout m f
@@ -53,7 +54,7 @@ fits_exposed marked text Plain m f i a = fits_none marked text Plain m f
 true_of : (b : Bool) → Some (value.Bool b) ≡ Some (value.Bool true) → b ≡ true
 true_of b e = cc
 
-module _ (s : Setting) (text : List ℕ) where
+module _ (s : Setting) (text : Input) where
   abbrev pub IsTrue : Environment → ℕ → Symbol → Type 0
   IsTrue env i (Guard e) = HasValue text env i e (value.Bool true)
   IsTrue env i x = ⊥
@@ -80,7 +81,7 @@ module _ (s : Setting) (text : List ℕ) where
 
   -- the tests before a token hold where its start is allowed
   pub allowed_guards : (c : DeclKind) (p : Pair) (m : ℕ) (f : Option ℕ) (other : Environment) (i : ℕ) → IsProper c p →
-      Holds s text p m f other i → IsBefore f i → i ≤ length text → (c ≡ Syntax → Allows text m f i) → AreTrue other i (guards s p)
+      Holds s text p m f other i → IsBefore f i → i ≤ length text.characters → (c ≡ Syntax → Allows text m f i) → AreTrue other i (guards s p)
   allowed_guards c lacking m f other i proper h before within a = tt
   allowed_guards c carried m f other i proper h before within a =
       (inside_is carried m f other i h ∙ allows_inside text m f i before within (a proper), tt)
@@ -89,7 +90,7 @@ module _ (s : Setting) (text : List ℕ) where
   allowed_guards c cleared m f other i proper h before within a = tt
 
   pub guards_allow : (p : Pair) (m : ℕ) (f : Option ℕ) (other : Environment) (i : ℕ) →
-      Holds s text p m f other i → IsBefore f i → i ≤ length text → AreTrue other i (guards s p) → Allows text m f i
+      Holds s text p m f other i → IsBefore f i → i ≤ length text.characters → AreTrue other i (guards s p) → Allows text m f i
   guards_allow lacking m f other i h before within t =
       let v = lacking_values s text m f other i h in
       subst (λ z. Allows text z f i) (sym v.0) (subst (λ z. Allows text 0 z i) (sym v.1) (all_allowed text i))
@@ -99,7 +100,7 @@ module _ (s : Setting) (text : List ℕ) where
       let v = cleared_values s text m f other i h in
       subst (λ z. Allows text z f i) (sym v.0) (subst (λ z. Allows text 0 z i) (sym v.1) (all_allowed text i))
 
-  column_test : (other : Environment) (h k : ℕ) → h ≤ length text → get other s.c ≡ Some (int k) →
+  column_test : (other : Environment) (h k : ℕ) → h ≤ length text.characters → get other s.c ≡ Some (int k) →
       value_of text (names other) (values other) h (expression.Binary Equal column_here (expression.Variable s.c)) ≡
       Some (value.Bool (nat_eq (column_of text h) k))
   column_test other h k within e =
@@ -107,14 +108,14 @@ module _ (s : Setting) (text : List ℕ) where
       ap truth (int_eq_pos (column_of text h) k)
 
   -- the test before an item holds where it stands in the column of its list
-  pub column_true : (al : Bool) (other : Environment) (h k : ℕ) → h ≤ length text → HasColumn s text al other k →
+  pub column_true : (al : Bool) (other : Environment) (h k : ℕ) → h ≤ length text.characters → HasColumn s text al other k →
       (al ≡ true → column_of text h ≡ k) → AreTrue other h (column_guards s al)
   column_true false other h k within e c = tt
   column_true true other h k within e c =
       let same : nat_eq (column_of text h) k ≡ true = grind (arith, eqb_tells (column_of text h) k, c refl) in
       (column_test other h k within e ∙ ap truth same, tt)
 
-  pub true_column : (al : Bool) (other : Environment) (h k : ℕ) → h ≤ length text → HasColumn s text al other k →
+  pub true_column : (al : Bool) (other : Environment) (h k : ℕ) → h ≤ length text.characters → HasColumn s text al other k →
       AreTrue other h (column_guards s al) → al ≡ true → column_of text h ≡ k
   true_column false other h k within e t a = absurd (cc)
   true_column true other h k within e t a =
@@ -198,7 +199,7 @@ module _ (s : Setting) (text : List ℕ) where
 
     -- at the start of an alternative
     pub situated_first : (b : Bool) (m : ℕ) (f : Option ℕ) (i : ℕ) {ps : List Param} {vs : List Value} {env : Environment} → AreBound ps vs env →
-        AreWritten s ps → (b ≡ false → (m ≡ 0) × (f ≡ None)) → IsBefore f i → i ≤ length text →
+        AreWritten s ps → (b ≡ false → (m ≡ 0) × (f ≡ None)) → IsBefore f i → i ≤ length text.characters →
         Situated s text env (env ++ pair_bound b m f) (pair_by b) m f i
     situated_first false m f i {ps} {vs} {env} bound w unpaired before within =
         let v = unpaired refl in

@@ -1,6 +1,7 @@
 -- Values in an environment with the added names.
 use Rattle.std.proofs.Common.{◌≡◌, ◌≢◌, ◌∙◌, ℕ, if◌then◌else◌, List, [], ◌∷◌, ◌++◌, Option, Some, None, option_and_then, refl, sym, ap, ap₂}
 use Rattle.std.specs.Option.{option_or}
+use Rattle.ig_text.specs.Input.{Input}
 use Rattle.ig_text.specs.Words.{is_word}
 use Rattle.ig_text.proofs.Characters.{differs}
 use Rattle.ig_expr.specs.Expression.{Expression}
@@ -90,7 +91,7 @@ module _ (s : Setting) where
       })
       (keep_replaced bs vs (with_value env b.name v) r.1)
 
-  module _ (text : List ℕ) where
+  module _ (text : Input) where
     abbrev value : Environment → ℕ → Expression → Option Value
     value env here e = value_of text (names env) (values env) here e
 

@@ -1,6 +1,7 @@
 -- What symbols of the source bind, the lowered ones bind under the pair.
 use Rattle.std.proofs.Common.{◌≡◌, ◌≤◌, ◌∙◌, ℕ, Bool, true, false, List, [], ◌∷◌, ◌++◌, map, length, append_assoc, Option, Some, None, refl, sym, ap, subst, inl, inr, arith}
 use Rattle.std.proofs.lemmas.List.{append-nil, map-append}
+use Rattle.ig_text.specs.Input.{Input}
 use Rattle.ig_text.specs.declared.tag.Tag.{Tag}
 use Rattle.ig_text.specs.Lines.{column_of}
 use Rattle.ig_expr.specs.ValuedTree.{Tree, Trees, Node, none, more, one, join, bare_tree, bare_trees}
@@ -53,9 +54,9 @@ column_guards_test : (s : Setting) (al : Bool) → AreTests (column_guards s al)
 column_guards_test s false = tt
 column_guards_test s true = tt
 
-module _ (s : Setting) (apart : AreApart s) (g g2 : Grammar) (shapes shapes2 : List Shape) (text : List ℕ) (takes : Takes s g g2 shapes shapes2) where
+module _ (s : Setting) (apart : AreApart s) (g g2 : Grammar) (shapes shapes2 : List Shape) (text : Input) (takes : Takes s g g2 shapes shapes2) where
   abbrev n : ℕ
-  n = length text
+  n = length text.characters
 
   -- the environment of the other grammar grows by the same names and values
   record Target (c : DeclKind) (gs : List Symbol) (y : Symbol) (env other : Environment) (i e j : ℕ) (ts : Trees) (after : Environment) : Type 0 where

@@ -120,7 +120,7 @@ lowered_declarations s (shape ∷ shapes) (d ∷ ds) = lowered_declaration s sha
 -- a grammar in which some declaration may stand for the root
 abbrev pub lowered_grammar : Grammar → List Shape → Grammar
 lowered_grammar g shapes =
-    record { start = g.start; decls = lowered_declarations (setting_of g.decls shapes) shapes g.decls }
+    record { start = g.start; tabs = g.tabs; decls = lowered_declarations (setting_of g.decls shapes) shapes g.decls }
 
 abbrev pub lowered_of : CheckedGrammar → CheckedGrammar
 lowered_of c = record { grammar = lowered_grammar c.grammar c.shapes; shapes = c.shapes }

@@ -1,5 +1,6 @@
 -- What the blocks pass keeps, and what a pair of a column and a start says of all blocks around a position.
 use Rattle.std.specs.Prelude.{◌≡◌, ◌⊎◌, ◌↔◌, ℕ, ◌<◌, ◌≤◌, pos, true, List, All, Contains, Some, length, map}
+use Rattle.ig_text.specs.Input.{Input}
 use Rattle.ig_text.specs.Lines.{column_of}
 use Rattle.ig_expr.specs.Blocks.{inside}
 use Rattle.ig_expr.specs.declared.value.Value.TheVariants as value
@@ -46,7 +47,7 @@ BlocksMultiply = (c : CheckedGrammar) → Multiplies 5 c.grammar (BlocksOf c).gr
 -- by the pair inside these blocks, the test before a token is true exactly where each of them allows it
 abbrev pub PairsTellOfBlocks : Type 0
 PairsTellOfBlocks =
-    (text blocks : List ℕ) (q : ℕ) → q ≤ length text → AreAround blocks q →
+    (text : Input) (blocks : List ℕ) (q : ℕ) → q ≤ length text.characters → AreAround blocks q →
     ((inside text q (value.Int (pos (inner_column text blocks))) (value.Int (start_value (innermost blocks))) ≡
     Some (value.Bool true)) ↔ All (λ i. (q ≡ i) ⊎ (column_of text i < column_of text q)) blocks)
 

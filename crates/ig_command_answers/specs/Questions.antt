@@ -1,6 +1,7 @@
 -- What is told where a question is asked: the spans that are wanted, and what a forest says.
 use Rattle.std.specs.Prelude.{◌≡◌, ◌↔◌, ℕ, List, Bool, IsTrue, Contains, Option, None, Some, chars}
 use Rattle.std.specs.List.Sorted.{IsStrictlySortedBy}
+use Rattle.ig_text.specs.Input.{Input}
 use Rattle.ig_text.specs.declared.text.Span.{Span}
 use Rattle.ig_grammar.specs.Checked.{CheckedGrammar}
 use Rattle.ig_grammar.specs.declared.grammar.Grammar.{Grammar}
@@ -23,7 +24,7 @@ IsWanted c (Some given) name = name ≡ chars given
 
 -- exactly the spans of the nodes of the declaration of that name in permitted trees, by their begin and then their end, each
 -- once; there are none where no declaration has the name
-pub record ArePermittedSpans (g : Grammar) (text name : List ℕ) (found : List Span) : Type 0 where
+pub record ArePermittedSpans (g : Grammar) (text : Input) (name : List ℕ) (found : List Span) : Type 0 where
   pub members : (span : Span) → Contains found span ↔ DeclaresSpan g text name span
   pub order : IsStrictlySortedBy span_cmp found
 
@@ -48,13 +49,13 @@ pub record TellsSpans (c : CheckedGrammar) (f : Forest) (given : Option (List �
   pub text_is : out ≡ spans_text found
 
 -- the line of the report
-pub record TellsReport (c : CheckedGrammar) (text out : List ℕ) : Type 0 where
+pub record TellsReport (c : CheckedGrammar) (text : Input) (out : List ℕ) : Type 0 where
   pub told : Report
   pub is : IsReport (CoreOf c) text told
   pub line : IsFurthestLine told out
 
 -- the text of the answer to a question, by the forest, or by the grammar and the text
-abbrev pub Tells : CheckedGrammar → List ℕ → Forest → Question → List ℕ → Type 0
+abbrev pub Tells : CheckedGrammar → Input → Forest → Question → List ℕ → Type 0
 Tells c text f asked.ambiguous out = TellsAmbiguous f out
 Tells c text f asked.cyclic out = TellsCyclic f out
 Tells c text f (asked.spans given) out = TellsSpans c f given out

@@ -1,5 +1,6 @@
 -- What the answer to a question is of permitted trees.
 use Rattle.std.proofs.Common.{◌≢◌, ◌≡◌, ◌↔◌, ℕ, List, [], ◌∷◌, Contains, IsTrue, Option, Result, Ok, Err, Vec, Global, refl, sym, subst, arith}
+use Rattle.ig_text.specs.Input.{Input}
 use Rattle.ig_text.proofs.Lists.{none_in_nil}
 use Rattle.ig_grammar.specs.Checked.{CheckedGrammar}
 use Rattle.ig_item.specs.WellKinded.{IsWellKinded}
@@ -34,7 +35,7 @@ first : (f : Forest) (nodes : List ℕ) → AreAmbiguous f nodes → nodes ≢ [
 first f [] are some = absurd (some refl)
 first f (v ∷ vs) are some = (v, (are.members v).0 (0, omega arith, refl))
 
-module _ (laws : Laws) (c : CheckedGrammar) (text : List ℕ) (f : Forest) (is : IsForestOf c text f) (trim : IsTrim f)
+module _ (laws : Laws) (c : CheckedGrammar) (text : Input) (f : Forest) (is : IsForestOf c text f) (trim : IsTrim f)
     (well : IsWellKinded (CoreOf c)) (as_it_is : c ≡ unchanged c.grammar) where
   some_exactly : (nodes : List ℕ) → AreAmbiguous f nodes → (nodes ≢ []) ↔ PermitsTwo c text
   some_exactly nodes are =

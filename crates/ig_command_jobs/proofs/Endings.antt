@@ -1,12 +1,12 @@
 -- What comes of a parse is what comes of its question.
-use Rattle.std.proofs.Common.{◌≡◌, ◌↔◌, ◌<◌, ◌≤◌, ℕ, List, [], Contains, sym, subst, arith, length, map}
+use Rattle.std.proofs.Common.{◌≡◌, ◌≤◌, ℕ, List, [], sym, subst, arith, length}
 use Rattle.std.proofs.lemmas.List.{length-map}
-use Rattle.std.specs.Prelude.{Result, Ok, Err, Vec}
-use Rattle.std.specs.declared.alloc.Global.{Global}
+use Rattle.std.specs.Prelude.{Err}
+use Rattle.ig_text.specs.Input.{Input}
 use Rattle.ig_grammar.specs.Checked.{CheckedGrammar}
 use Rattle.ig_core.specs.Lowered.{CoreOf}
 use Rattle.ig_core.specs.Notation.{unchanged}
-use Rattle.ig_item.specs.Items.{Item, MoreThan, Reachable}
+use Rattle.ig_item.specs.Items.{MoreThan, Reachable}
 use Rattle.ig_item.specs.Recorded.{IsRecorded, Recording}
 use Rattle.ig_item.specs.Tables.{item_of, items_of}
 use Rattle.ig_item.specs.declared.core_grammar.Nonterminal.{Nonterminal}
@@ -23,7 +23,7 @@ use Rattle.ig_command_jobs.specs.Outcome.{Outcome, over_budget, no_parse, parsed
 use Rattle.ig_command_jobs.specs.Texts as texts
 use Rattle.ig_command_jobs.specs.Texts.{IsParse, ParsesText, StopsParse}
 
-module _ (c : CheckedGrammar) (input : List ℕ) (budget : ℕ) (as_it_is : c ≡ unchanged c.grammar) where
+module _ (c : CheckedGrammar) (input : Input) (budget : ℕ) (as_it_is : c ≡ unchanged c.grammar) where
   by_forest : (s : Status) (out note : List ℕ) → IsParse c input budget print s out note →
       Outcome c.grammar input budget print s out note
   by_forest s out note p =
@@ -53,13 +53,13 @@ module _ (c : CheckedGrammar) (input : List ℕ) (budget : ℕ) (as_it_is : c �
   told_stop s line none e p = subst (λ (z : List ℕ). Outcome c.grammar input budget print s z line) (sym e) (by_stop s line p)
 
 -- more items are reachable than the budget allows
-pub told_over : (c : CheckedGrammar) (input : List ℕ) (budget : ℕ) (stop : Stop) → IsOver c input budget → IsOverBudget budget stop →
+pub told_over : (c : CheckedGrammar) (input : Input) (budget : ℕ) (stop : Stop) → IsOver c input budget → IsOverBudget budget stop →
     ParsesText c input budget print (Err stop)
 told_over c input budget (halt.Note s line) over h = texts.over_budget s line.items over h.0 h.1
 told_over c input budget halt.Memory over h = tt
 
 -- what was recorded has no more items than the budget, so that it suffices
-module _ (suffice : BudgetsSuffice) (c : CheckedGrammar) (input : List ℕ) (budget : ℕ) (r : Recording) (core : r.core ≡ CoreOf c)
+module _ (suffice : BudgetsSuffice) (c : CheckedGrammar) (input : Input) (budget : ℕ) (r : Recording) (core : r.core ≡ CoreOf c)
     (text : r.text ≡ input) (recorded : IsRecorded r) (within : length r.tables.items ≤ budget) where
   here : MoreThan (CoreOf c) input budget → MoreThan r.core r.text (length (items_of r.tables))
   here m =
@@ -69,7 +69,7 @@ module _ (suffice : BudgetsSuffice) (c : CheckedGrammar) (input : List ℕ) (bud
         different = m.different;
         reachable = λ x i.
             subst (λ (z : List Nonterminal). Reachable z r.text x) (sym core)
-            (subst (λ (z : List ℕ). Reachable (CoreOf c) z x) (sym text) (m.reachable x i));
+            (subst (λ (z : Input). Reachable (CoreOf c) z x) (sym text) (m.reachable x i));
         more = omega (arith, n, over, within);
       }
 

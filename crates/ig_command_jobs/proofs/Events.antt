@@ -1,27 +1,27 @@
 -- What the events of a parse do.
-use Rattle.std.proofs.Common.{◌≡◌, ◌≢◌, ◌↔◌, ℕ, ◌+◌, ◌-◌, ◌<◌, ◌≤◌, List, [], ◌∷◌, Option, Some, None, true, false, Bool, IsTrue, refl, sym, ap, ◌∙◌, subst, arith, length, map}
+use Rattle.std.proofs.Common.{◌≡◌, ◌≢◌, ◌↔◌, ℕ, ◌+◌, ◌-◌, ◌<◌, ◌≤◌, List, Option, Some, None, true, false, Bool, IsTrue, refl, sym, ap, ◌∙◌, subst, arith, length}
 use Rattle.std.specs.Prelude.{IfErr, IfOk, Result, Ok, Err}
 use Rattle.std.proofs.lemmas.List.{length-map}
 use Rattle.std.proofs.lemmas.List.Sorted.{length_permutation}
-use Rattle.ig_grammar.specs.Checked.{CheckedGrammar}
-use Rattle.ig_item.specs.Items.{Item, MoreThan}
+use Rattle.ig_text.specs.Input.{Input}
+use Rattle.ig_item.specs.Items.{MoreThan}
 use Rattle.ig_item.specs.declared.core_grammar.Nonterminal.{Nonterminal}
 use Rattle.ig_item.specs.declared.run_fault.RunFault.{RunFault}
 use Rattle.ig_item.specs.declared.run_fault.RunFault.TheVariants as fault
 use Rattle.ig_engine.specs.Adding.{IsOnward}
-use Rattle.ig_engine.specs.Reached.{Reached, means, seen}
+use Rattle.ig_engine.specs.Reached.{Reached, means}
 use Rattle.ig_engine.specs.Running.{Running}
 use Rattle.ig_engine.specs.Stepping.{IsBegun, IsUnbegun, Steps, Took, without}
 use Rattle.ig_engine.specs.declared.progress.Progress.{Progress}
 use Rattle.ig_engine.specs.declared.progress.Progress.TheVariants as progress
 use Rattle.ig_run_laws.specs.Finding.{Finding}
 use Rattle.ig_command_jobs.specs.Stages.{Follows, is_last}
-use Rattle.ig_command_jobs.specs.Underway.{GoesOn, IsAt, IsUnderway, Underway, left_at}
+use Rattle.ig_command_jobs.specs.Underway.{GoesOn, IsAt, left_at}
 use Rattle.ig_command_jobs.specs.declared.stage.Stage.{Stage}
 use Rattle.ig_command_jobs.specs.declared.stage.Stage.TheVariants as stage
 
 -- a parse begins with one item, whose ticket waits
-pub begins : (run : Running) (core : List Nonterminal) (text : List ℕ) (budget : ℕ) → run.refused ≡ None →
+pub begins : (run : Running) (core : List Nonterminal) (text : Input) (budget : ℕ) → run.refused ≡ None →
     IsBegun core text budget run.state → IsAt stage.Going 0 run
 begins run core text budget none begun =
     let alone = begun.alone in
@@ -31,7 +31,7 @@ begins run core text budget none begun =
     (omega arith, subst (GoesOn 0 run) (sym none) count)
 
 -- for what else than want of memory it doesn't begin
-pub unbegun : (core : List Nonterminal) (text : List ℕ) (budget : ℕ) (f : RunFault) → IsUnbegun core text budget f → f ≡ fault.Budget →
+pub unbegun : (core : List Nonterminal) (text : Input) (budget : ℕ) (f : RunFault) → IsUnbegun core text budget f → f ≡ fault.Budget →
     MoreThan core text budget
 unbegun core text budget fault.Budget h e = h.1
 unbegun core text budget fault.Memory h e = absurd (cc)
@@ -66,7 +66,7 @@ module _ (a b : Running) (events : ℕ) (budget : b.budget ≡ a.budget) where
   moved : b.core ≡ a.core → b.text ≡ a.text → MoreThan a.core a.text a.budget → MoreThan b.core b.text b.budget
   moved core text m =
       subst (λ (z : List Nonterminal). MoreThan z b.text b.budget) (sym core)
-      (subst (λ (z : List ℕ). MoreThan a.core z b.budget) (sym text) (subst (λ (z : ℕ). MoreThan a.core a.text z) (sym budget) m))
+      (subst (λ (z : Input). MoreThan a.core z b.budget) (sym text) (subst (λ (z : ℕ). MoreThan a.core a.text z) (sym budget) m))
 
 -- an event leads to what is known in the stage behind it
 pub goes_on : {E : Type 0} (a b : Running) (events : ℕ) (r : Result Progress RunFault) (o : Result Stage E) → b.core ≡ a.core →

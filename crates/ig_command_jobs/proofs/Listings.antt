@@ -1,6 +1,7 @@
 -- What a forest's listing is of permitted trees.
 use Rattle.std.proofs.Common.{◌≢◌, ◌↔◌, inl, inr, ℕ, ◌≤◌, List, [], get_or, Contains, Option, Some, None, Result, Ok, Err, Vec, Global, sym, subst, arith}
 use Rattle.std.proofs.lemmas.List.Elements.{Contains-get_or}
+use Rattle.ig_text.specs.Input.{Input}
 use Rattle.ig_text.specs.Tree.{Tree, height}
 use Rattle.ig_grammar.specs.Checked.{CheckedGrammar}
 use Rattle.ig_item.specs.declared.core_grammar.Nonterminal.{Nonterminal}
@@ -43,7 +44,7 @@ module _ (core : List Nonterminal) (f : Forest) (l : Listing) where
   page_lost (halt.Note s line) lost h = stops.lost s line.items lost.0 lost.1 lost.2 h.0 h.1
   page_lost halt.Memory lost h = tt
 
-module _ (c : CheckedGrammar) (text : List ℕ) (f : Forest) (is : IsForestOf c text f) (low : HasLowTrees f)
+module _ (c : CheckedGrammar) (text : Input) (f : Forest) (is : IsForestOf c text f) (low : HasLowTrees f)
     (unbounded : IsCyclic f ↔ HasNoHighest c text) where
   module _ (depth : Option ℕ) (d : ℕ) where
     bounded : IsDepthFor f depth d → IsBounded c text depth

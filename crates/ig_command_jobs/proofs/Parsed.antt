@@ -1,5 +1,6 @@
 -- What a parser's answer comes to as a text.
 use Rattle.std.proofs.Common.{◌≡◌, ◌↔◌, ℕ, List, Contains, Result, Ok, Err, Vec, Global, [], ◌<◌, ◌≤◌, sym, subst, subst₂, ◌∙◌}
+use Rattle.ig_text.specs.Input.{Input}
 use Rattle.ig_grammar.specs.Checked.{CheckedGrammar}
 use Rattle.ig_grammar.specs.declared.grammar.Grammar.{Grammar}
 use Rattle.ig_forest_tables.specs.Forest.{Forest}
@@ -32,7 +33,7 @@ use Rattle.ig_command_jobs.proofs.Answering.{Laws, finishes_question}
 use Rattle.ig_command_jobs.proofs.Listings.{finishes_listing}
 
 -- what comes of the job is said of permitted trees
-module _ (laws : Laws) (c : CheckedGrammar) (input : List ℕ) (f : Forest) (is : IsForestOf c input f) (trim : IsTrim f)
+module _ (laws : Laws) (c : CheckedGrammar) (input : Input) (f : Forest) (is : IsForestOf c input f) (trim : IsTrim f)
     (well : IsWellKinded (CoreOf c)) (as_it_is : c ≡ unchanged c.grammar) where
   prints : (r : Result (Vec ℕ Global) Stop) → ShowsForest f r → FinishesJob c input f print r
   prints (Ok text) h =
@@ -47,7 +48,7 @@ module _ (laws : Laws) (c : CheckedGrammar) (input : List ℕ) (f : Forest) (is 
   finishes_job (ask question) r h = finishes_question laws c input f is trim well as_it_is question r h
 
 -- the trees of the forest and their cursors can be printed
-pub printable : (core : List Nonterminal) (c : CheckedGrammar) (input : List ℕ) (f : Forest) → core ≡ CoreOf c →
+pub printable : (core : List Nonterminal) (c : CheckedGrammar) (input : Input) (f : Forest) → core ≡ CoreOf c →
     IsWellKinded core → IsReduced (CoreOf c) input f → TagsNameNonterminals → CursorsAreShort f → IsPrintable core f
 printable core c input f e well reduced tags short =
     let P : List Nonterminal → Type 0 = λ z. IsReduced z input f in
@@ -58,12 +59,12 @@ printable core c input f e well reduced tags short =
     }
 
 -- the items that were recorded of the core grammar and the input are the reachable ones
-pub recorded_reachable : (c : CheckedGrammar) (input : List ℕ) (r : Recording) → r.core ≡ CoreOf c → r.text ≡ input → IsRecorded r →
+pub recorded_reachable : (c : CheckedGrammar) (input : Input) (r : Recording) → r.core ≡ CoreOf c → r.text ≡ input → IsRecorded r →
     AreReachable c input r.tables
 recorded_reachable c input r core text is =
     subst₂ (λ k t. (x : Item) → Contains (items_of r.tables) x ↔ Reachable k t x) core text is.reachable
 
-module _ (c : CheckedGrammar) (input : List ℕ) (budget : ℕ) (job : Job) where
+module _ (c : CheckedGrammar) (input : Input) (budget : ℕ) (job : Job) where
   pub parses_forest : (f : Forest) (r : Result (Vec ℕ Global) Stop) → HasForest c input budget f → FinishesJob c input f job r →
       ParsesText c input budget job r
   parses_forest f (Ok text) has h = record { forest = f; is = has; finishes = h }

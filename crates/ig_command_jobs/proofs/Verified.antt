@@ -1,7 +1,7 @@
 -- What a check of a forest comes to.
 use Rattle.std.proofs.Common.{◌≡◌, ◌≤◌, ◌∙◌, ℕ, List, [], length, Result, Ok, Err, Vec, Global, Some, sym, subst}
 use Rattle.std.proofs.lemmas.Option.{same_Some}
-use Rattle.ig_text.specs.Limits.{most_characters}
+use Rattle.ig_text.specs.Input.{Input, KeepsLimits}
 use Rattle.ig_grammar.specs.Checked.{CheckedGrammar}
 use Rattle.ig_item.specs.WellKinded.{IsWellKinded}
 use Rattle.ig_item.specs.declared.core_grammar.Nonterminal.{Nonterminal}
@@ -23,7 +23,7 @@ use Rattle.ig_command_sources.specs.Sources.{most_forest_bytes}
 use Rattle.ig_command_jobs.specs.Verifying.{HasPermittedTrees, IsReducedText, IsTaken, IsForestText, SaysVerified, Verifies, VerifiesDraft, VerifiesText, no_forest, not_sound, verified}
 
 -- what comes of the rules of a forest that was read
-module _ (core : List Nonterminal) (input : List ℕ) (f : Forest) where
+module _ (core : List Nonterminal) (input : Input) (f : Forest) where
   pub verifies_sound : (r : Result (Vec ℕ Global) Stop) → SaysVerified r → IsSound core input f → VerifiesDraft core input f r
   verifies_sound (Ok text) h sound = (h, sound)
   verifies_sound (Err (halt.Note s line)) h sound = absurd h
@@ -40,15 +40,15 @@ tells_names c taken law =
     let P : CheckedGrammar → Type 0 = λ z. TellsNames (CoreOf z) in
     subst P (sym taken.as_it_is) (law taken.written taken.bytes c.grammar taken.accepted)
 
-pub record Given (c : CheckedGrammar) (input xs : List ℕ) : Type 0 where
+pub record Given (c : CheckedGrammar) (input : Input) (xs : List ℕ) : Type 0 where
   pub taken : IsTaken c
   pub few : length xs ≤ most_forest_bytes
   pub well : IsWellKinded (CoreOf c)
-  pub characters : length input ≤ most_characters
+  pub limits : KeepsLimits input
   pub certified : ReducedIsCertified
   pub permitted : VerifiedIsPermitted
 
-module _ (c : CheckedGrammar) (input xs : List ℕ) (given : Given c input xs) where
+module _ (c : CheckedGrammar) (input : Input) (xs : List ℕ) (given : Given c input xs) where
   -- the reduced forest is one that is read and verified
   certified : (r : IsReducedText c input xs) → IsCertified (CoreOf c) input r.forest
   certified r =
@@ -57,7 +57,7 @@ module _ (c : CheckedGrammar) (input xs : List ℕ) (given : Given c input xs) w
       let C : CheckedGrammar → Type 0 = λ z. IsCertified (CoreOf z) input r.forest in
       let same = given.taken.as_it_is in
       subst C (sym same)
-      (given.certified given.taken.written given.taken.bytes c.grammar input r.forest given.taken.accepted (subst W same given.well) given.characters (subst R same r.reduced) r.few_items)
+      (given.certified given.taken.written given.taken.bytes c.grammar input r.forest given.taken.accepted (subst W same given.well) given.limits (subst R same r.reduced) r.few_items)
 
   -- each tree of a sound forest is permitted
   permitted : (f : Forest) → IsDraftOf (CoreOf c) f → IsSound (CoreOf c) input f → HasPermittedTrees c input f

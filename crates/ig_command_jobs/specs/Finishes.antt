@@ -1,5 +1,6 @@
 -- What comes of a job, by the forest of the trees that are permitted.
 use Rattle.std.specs.Prelude.{◌≡◌, ◌≢◌, ◌↔◌, ℕ, List, [], Bool, IsTrue, Option, Some, None}
+use Rattle.ig_text.specs.Input.{Input}
 use Rattle.ig_text.specs.Tree.{Tree}
 use Rattle.ig_text.specs.declared.text.Span.{Span}
 use Rattle.ig_grammar.specs.Checked.{CheckedGrammar}
@@ -24,7 +25,7 @@ use Rattle.ig_command_jobs.specs.Jobs.{Job, print, list, ask}
 use Rattle.ig_command_jobs.specs.Listing.{IsBounded, IsNoCursor, Begins, IsTreeListing}
 
 -- the note of how far the items came in the input, and of what was expected there
-pub record IsNoParseNote (c : CheckedGrammar) (input note : List ℕ) : Type 0 where
+pub record IsNoParseNote (c : CheckedGrammar) (input : Input) (note : List ℕ) : Type 0 where
   pub report : Report
   pub place : List ℕ
   pub is : IsReport (CoreOf c) input report
@@ -32,7 +33,7 @@ pub record IsNoParseNote (c : CheckedGrammar) (input note : List ℕ) : Type 0 w
   pub note_is : note ≡ no_parse_note place
 
 -- what comes of a job, by the forest of the trees that are permitted: the status, out's text and notes' line
-pub data Finishes (c : CheckedGrammar) (input : List ℕ) (f : Forest) : Job → Status → List ℕ → List ℕ → Type 0 where
+pub data Finishes (c : CheckedGrammar) (input : Input) (f : Forest) : Job → Status → List ℕ → List ℕ → Type 0 where
   -- the text of the forest
   printed : Finishes c input f print status.Done (forest_text f) []
   -- trees of each height are wanted, and there is no highest one

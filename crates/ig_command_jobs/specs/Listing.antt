@@ -1,6 +1,7 @@
 -- The listing of the trees that a grammar permits for a text, in their order, with the cursors that they have in a forest.
 use Rattle.std.specs.Prelude.{◌≡◌, ◌⊎◌, ℕ, ◌≤◌, List, Contains, Option, Some, None, length}
 use Rattle.std.specs.List.{AllPairs}
+use Rattle.ig_text.specs.Input.{Input}
 use Rattle.ig_text.specs.Tree.{Tree, height}
 use Rattle.ig_grammar.specs.Checked.{CheckedGrammar}
 use Rattle.ig_meaning.specs.Order.{Precedes}
@@ -16,7 +17,7 @@ abbrev pub IsWithin : Option ℕ → Tree → Type 0
 IsWithin None t = Unit {0}
 IsWithin (Some depth) t = height t ≤ depth
 
-module _ (c : CheckedGrammar) (text : List ℕ) where
+module _ (c : CheckedGrammar) (text : Input) where
   -- a depth is given, or the permitted trees have a highest one
   abbrev pub IsBounded : Option ℕ → Type 0
   IsBounded None = HasNoHighest c text → ⊥

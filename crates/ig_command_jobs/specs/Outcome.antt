@@ -1,5 +1,6 @@
 -- What comes of a grammar, an input and a job: what `iguana` says, and each job of a batch.
 use Rattle.std.specs.Prelude.{ℕ, List, []}
+use Rattle.ig_text.specs.Input.{Input}
 use Rattle.ig_grammar.specs.declared.grammar.Grammar.{Grammar}
 use Rattle.ig_core.specs.Notation.{unchanged}
 use Rattle.ig_forest_tables.specs.Forest.{Forest}
@@ -11,7 +12,7 @@ use Rattle.ig_command_jobs.specs.Jobs.{Job}
 use Rattle.ig_command_jobs.specs.Finishes.{IsNoParseNote, Finishes}
 
 -- the status, out's text and notes' line, from the grammar as it is written, the input, the budget and the job
-pub data Outcome (g : Grammar) (input : List ℕ) (budget : ℕ) (job : Job) : Status → List ℕ → List ℕ → Type 0 where
+pub data Outcome (g : Grammar) (input : Input) (budget : ℕ) (job : Job) : Status → List ℕ → List ℕ → Type 0 where
   -- more items are reachable than the budget allows
   over_budget : IsOver (unchanged g) input budget → Outcome g input budget job status.Budget [] (budget_note budget)
   -- no tree is permitted; the note says how far the items came, and what was expected there

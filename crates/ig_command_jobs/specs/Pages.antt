@@ -1,6 +1,7 @@
 -- What comes of a job by the forest.
 use Rattle.std.specs.Prelude.{◌≡◌, ℕ, List, Result, Ok, Err, Vec}
 use Rattle.std.specs.declared.alloc.Global.{Global}
+use Rattle.ig_text.specs.Input.{Input}
 use Rattle.ig_grammar.specs.Checked.{CheckedGrammar}
 use Rattle.ig_item.specs.declared.core_grammar.Nonterminal.{Nonterminal}
 use Rattle.ig_core.specs.Lowered.{CoreOf}
@@ -30,13 +31,13 @@ ListsPage core f listing (Err (halt.Note s line)) = StopsListing f listing s lin
 ListsPage core f listing (Err halt.Memory) = Unit {0}
 
 -- the text of the answer to a question
-abbrev pub GivesAnswer : CheckedGrammar → List ℕ → Forest → Question → Result (Vec ℕ Global) Stop → Type 0
+abbrev pub GivesAnswer : CheckedGrammar → Input → Forest → Question → Result (Vec ℕ Global) Stop → Type 0
 GivesAnswer c input f question (Ok text) = Tells c input f question text.items
 GivesAnswer c input f question (Err (halt.Note s line)) = ⊥
 GivesAnswer c input f question (Err halt.Memory) = Unit {0}
 
 -- what comes of a job by the forest, or by the grammar and the input where the report is asked for
-abbrev pub ComesOf : CheckedGrammar → List ℕ → Forest → Job → Result (Vec ℕ Global) Stop → Type 0
+abbrev pub ComesOf : CheckedGrammar → Input → Forest → Job → Result (Vec ℕ Global) Stop → Type 0
 ComesOf c input f print r = ShowsForest f r
 ComesOf c input f (list listing) r = ListsPage (CoreOf c) f listing r
 ComesOf c input f (ask question) r = GivesAnswer c input f question r

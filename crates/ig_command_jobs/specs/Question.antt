@@ -1,5 +1,6 @@
 -- What a job is for, and what comes of it.
 use Rattle.std.specs.Prelude.{◌≡◌, ℕ, List, []}
+use Rattle.ig_text.specs.Input.{Input}
 use Rattle.ig_grammar.specs.declared.grammar.Grammar.{Grammar}
 use Rattle.ig_command_endings.specs.declared.status.Status.{Status}
 use Rattle.ig_command_jobs.specs.Jobs.{print}
@@ -9,7 +10,7 @@ pub data Question : Type 0 where
   -- a file of the job is refused, with this status and this line
   refused : (status : Status) (note : List ℕ) → Question
   -- the grammar, as it is written, parses the input within the budget
-  parses : (g : Grammar) (input : List ℕ) (budget : ℕ) → Question
+  parses : (g : Grammar) (input : Input) (budget : ℕ) → Question
 
 -- the status, out's text and notes' line: those that the grammar and the input alone have
 abbrev pub Ends : Question → Status → List ℕ → List ℕ → Type 0

@@ -1,6 +1,7 @@
 -- What a parser and an input, or a load, give: a text, or where the command stops.
 use Rattle.std.specs.Prelude.{◌≡◌, ◌≢◌, ℕ, ◌<◌, List, [], Result, Ok, Err, Vec}
 use Rattle.std.specs.declared.alloc.Global.{Global}
+use Rattle.ig_text.specs.Input.{Input}
 use Rattle.ig_grammar.specs.Checked.{CheckedGrammar}
 use Rattle.ig_grammar.specs.declared.grammar.Grammar.{Grammar}
 use Rattle.ig_item.specs.Core.{dots}
@@ -50,20 +51,20 @@ ShowsForest f (Err (halt.Note s line)) = ⊥
 ShowsForest f (Err halt.Memory) = Unit {0}
 
 -- what comes of a job, by the forest
-abbrev pub FinishesJob : CheckedGrammar → List ℕ → Forest → Job → Result (Vec ℕ Global) Stop → Type 0
+abbrev pub FinishesJob : CheckedGrammar → Input → Forest → Job → Result (Vec ℕ Global) Stop → Type 0
 FinishesJob c input f job (Ok text) = Finishes c input f job status.Done text.items []
 FinishesJob c input f job (Err (halt.Note s line)) = Finishes c input f job s [] line.items × (s ≢ status.Done)
 FinishesJob c input f job (Err halt.Memory) = Unit {0}
 
 -- that, and the forest is that of the permitted trees
-pub record IsParse (c : CheckedGrammar) (input : List ℕ) (budget : ℕ) (job : Job) (s : Status) (out note : List ℕ) :
+pub record IsParse (c : CheckedGrammar) (input : Input) (budget : ℕ) (job : Job) (s : Status) (out note : List ℕ) :
     Type 0 where
   pub forest : Forest
   pub is : HasForest c input budget forest
   pub finishes : Finishes c input forest job s out note
 
 -- why there is no text
-pub data StopsParse (c : CheckedGrammar) (input : List ℕ) (budget : ℕ) (job : Job) : Status → List ℕ → Type 0 where
+pub data StopsParse (c : CheckedGrammar) (input : Input) (budget : ℕ) (job : Job) : Status → List ℕ → Type 0 where
   over_budget : (s : Status) (note : List ℕ) → IsOver c input budget → s ≡ status.Budget →
       note ≡ budget_note budget → StopsParse c input budget job s note
   no_parse : (s : Status) (note : List ℕ) → (IsOver c input budget → ⊥) → IsUnparsed c input → s ≡ status.NoParse →
@@ -71,7 +72,7 @@ pub data StopsParse (c : CheckedGrammar) (input : List ℕ) (budget : ℕ) (job 
   at_job : (s : Status) (note : List ℕ) → IsParse c input budget job s [] note → s ≢ status.Done →
       StopsParse c input budget job s note
 
-abbrev pub ParsesText : CheckedGrammar → List ℕ → ℕ → Job → Result (Vec ℕ Global) Stop → Type 0
+abbrev pub ParsesText : CheckedGrammar → Input → ℕ → Job → Result (Vec ℕ Global) Stop → Type 0
 ParsesText c input budget job (Ok text) = IsParse c input budget job status.Done text.items []
 ParsesText c input budget job (Err (halt.Note s line)) = StopsParse c input budget job s line.items
 ParsesText c input budget job (Err halt.Memory) = Unit {0}

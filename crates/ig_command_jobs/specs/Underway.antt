@@ -1,5 +1,6 @@
 -- A parse that goes on by single events.
-use Rattle.std.specs.Prelude.{◌≡◌, ℕ, ◌+◌, ◌-◌, ◌^◌, ◌<◌, ◌≤◌, List, [], length, Option, Some, None}
+use Rattle.std.specs.Prelude.{◌≡◌, ℕ, ◌+◌, ◌-◌, ◌^◌, ◌<◌, ◌≤◌, [], length, Option, Some, None}
+use Rattle.ig_text.specs.Input.{Input}
 use Rattle.ig_grammar.specs.Checked.{CheckedGrammar}
 use Rattle.ig_core.specs.Lowered.{CoreOf}
 use Rattle.ig_core.specs.Notation.{unchanged}
@@ -40,7 +41,7 @@ IsAt stage.Whole events run = (run.refused ≡ None) × (run.state.found.waiting
 IsAt stage.Over events run = MoreThan run.core run.text run.budget
 
 -- the run is that of the grammar, which no pass has changed, and the input within the budget
-pub record IsUnderway (c : CheckedGrammar) (input : List ℕ) (budget events : ℕ) (at : Stage) (run : Running) : Type 0 where
+pub record IsUnderway (c : CheckedGrammar) (input : Input) (budget events : ℕ) (at : Stage) (run : Running) : Type 0 where
   pub as_it_is : c ≡ unchanged c.grammar
   pub core : run.core ≡ CoreOf c
   pub text : run.text ≡ input

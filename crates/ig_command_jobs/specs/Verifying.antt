@@ -1,6 +1,7 @@
 -- What comes of the text of a forest, by the grammar and the input of which it is to be one.
 use Rattle.std.specs.Prelude.{◌≡◌, ◌≢◌, ℕ, ◌<◌, ◌≤◌, List, [], ◌++◌, length, Result, Ok, Err, Vec, codes}
 use Rattle.std.specs.declared.alloc.Global.{Global}
+use Rattle.ig_text.specs.Input.{Input}
 use Rattle.ig_text.specs.Lines.{line_end}
 use Rattle.ig_text.specs.Limits.{numbers_end}
 use Rattle.ig_text.specs.Tree.{Tree}
@@ -42,11 +43,11 @@ pub record IsForestText (c : CheckedGrammar) (xs : List ℕ) (f : Forest) : Type
   pub text_is : xs ≡ forest_text f
 
 -- each tree to which the forest unfolds, at every depth, is permitted
-abbrev pub HasPermittedTrees : CheckedGrammar → List ℕ → Forest → Type 0
+abbrev pub HasPermittedTrees : CheckedGrammar → Input → Forest → Type 0
 HasPermittedTrees c input f = (d : ℕ) (t : Tree) → Unfolds f d t → Permitted c.grammar c.shapes input t
 
 -- what comes of the text of a forest: the status, out's text and notes' line
-pub data Verifies (c : CheckedGrammar) (input xs : List ℕ) : Status → List ℕ → List ℕ → Type 0 where
+pub data Verifies (c : CheckedGrammar) (input : Input) (xs : List ℕ) : Status → List ℕ → List ℕ → Type 0 where
   -- the text is too long
   too_long : most_forest_bytes < length xs → Verifies c input xs status.NotForest [] long_forest_note
   -- it is the text of no forest
@@ -61,25 +62,25 @@ pub data Verifies (c : CheckedGrammar) (input xs : List ℕ) : Status → List �
       HasPermittedTrees c input f → Verifies c input xs status.Done verified_text []
 
 -- the bytes are the text of the reduced forest of the grammar and the input, which has no more items than can be numbered
-pub record IsReducedText (c : CheckedGrammar) (input xs : List ℕ) : Type 0 where
+pub record IsReducedText (c : CheckedGrammar) (input : Input) (xs : List ℕ) : Type 0 where
   pub forest : Forest
   pub reduced : IsReduced (CoreOf c) input forest
   pub few_items : length forest.items < numbers_end
   pub text_is : xs ≡ forest_text forest
 
 -- such a text, where it isn't too long, is that of a forest that breaks no rule
-abbrev pub PassesReduced : CheckedGrammar → List ℕ → List ℕ → Status → Type 0
+abbrev pub PassesReduced : CheckedGrammar → Input → List ℕ → Status → Type 0
 PassesReduced c input xs s = length xs ≤ most_forest_bytes → IsReducedText c input xs → s ≡ status.Done
 
 -- what comes of a text that isn't too long
-abbrev pub VerifiesText : CheckedGrammar → List ℕ → List ℕ → Result (Vec ℕ Global) Stop → Type 0
+abbrev pub VerifiesText : CheckedGrammar → Input → List ℕ → Result (Vec ℕ Global) Stop → Type 0
 VerifiesText c input xs (Ok text) = Verifies c input xs status.Done text.items []
 VerifiesText c input xs (Err (halt.Note s line)) =
     Verifies c input xs s [] line.items × (s ≢ status.Done) × (IsReducedText c input xs → ⊥)
 VerifiesText c input xs (Err halt.Memory) = Unit {0}
 
 -- what comes of the rules of a forest that was read
-abbrev pub VerifiesDraft : List Nonterminal → List ℕ → Forest → Result (Vec ℕ Global) Stop → Type 0
+abbrev pub VerifiesDraft : List Nonterminal → Input → Forest → Result (Vec ℕ Global) Stop → Type 0
 VerifiesDraft core input f (Ok text) = (text.items ≡ verified_text) × IsSound core input f
 VerifiesDraft core input f (Err (halt.Note s line)) =
     (flaw : Flaw) × IsFirstFlaw core input f flaw × (s ≡ status.NotSound) ×

@@ -11,13 +11,11 @@
 //! `specs/Outcome.antt` says. The forest that somebody wrote down is checked ([`verify_text`]). A
 //! load has its line (`summary`).
 //!
-//! Parses that take turns.
-//!
-//! A [`ParseJob`] is a job of `ig_turns`: it takes the items of a run one by one, each by an event,
-//! and answers with the text of the forest, or with another status and its line.
-//! `specs/Question.antt` says what comes of it, by the grammar, the input and the budget alone; so
-//! what other jobs do in between, and in which order items are taken, changes nothing. A job whose
-//! files were refused is finished from the beginning.
+//! A [`ParseJob`] is a parse that takes turns with others, a job of `ig_turns`: it takes the items
+//! of a run one by one, each by an event, and answers with the text of the forest, or with another
+//! status and its line. `specs/Question.antt` says what comes of it, by the grammar, the input and
+//! the budget alone; so what other jobs do in between, and in which order items are taken, changes
+//! nothing. A job whose files were refused is finished from the beginning.
 #![tactic(auto)]
 
 mod ended;

@@ -1,6 +1,8 @@
 -- What a fetch and its reading come to, by what the shelf tells.
 use Rattle.std.proofs.Common.{◌≡◌, ℕ, ◌+◌, ◌<◌, ◌≤◌, List, length, replicate, inl, inr, sym, subst, refl, arith, Some, None, Result, Ok, Err, Vec, Global}
 use Rattle.std.proofs.Math.ListN.{length-replicate}
+use Rattle.ig_text.specs.Input.{Input, with_width}
+use Rattle.ig_text.specs.Decoding.{IsDecoded}
 use Rattle.ig_text.specs.Limits as text
 use Rattle.ig_command.specs.declared.command.Notation.{Notation}
 use Rattle.ig_notation_syntax.specs.Notation.{most_bytes}
@@ -95,20 +97,27 @@ pub not_fetched : (told : Told) (name : List ℕ) (old new : ℕ) (Refused : Lis
 not_fetched told name old new Refused (halt.Note s line) h = unread_alone told name old new Refused s line.items h
 not_fetched told name old new Refused halt.Memory h = h
 
-pub input_given : (told : Told) (name xs : List ℕ) (most old new : ℕ) (v : Vec ℕ Global) (r : Result Text Stop) →
-    AnswersFetch told most (Ok v) → new ≡ old → xs ≡ v.items → ReadsInput xs r → GivesInput told name old new r
-input_given told name xs most old new v (Ok text) a e i h = (e, (xs, subst (MayGive told) (sym i) (given told most v a), h))
-input_given told name xs most old new v (Err (halt.Note s line)) a e i h =
-    refused s line.items xs e (subst (MayGive told) (sym i) (given told most v a)) h
-input_given told name xs most old new v (Err halt.Memory) a e i h = inl e
+-- an input with tabs of another width
+pub widened : (tabs : ℕ) (xs : List ℕ) (decoded wide : Input) → IsDecoded 1 xs decoded → wide ≡ with_width tabs decoded →
+    IsDecoded tabs xs wide
+widened tabs xs decoded wide d e =
+    subst (IsDecoded tabs xs) (sym e)
+    (record { utf8 = d.utf8; characters = d.characters; tabs = refl; few_bytes = d.few_bytes; few_characters = d.few_characters })
 
-pub input_long : (told : Told) (name : List ℕ) (old new : ℕ) (stop : Stop) →
-    AnswersFetch told text.most_bytes (Err fetch.Long) → new ≡ old → IsTooLong stop → GivesInput told name old new (Err stop)
-input_long told name old new (halt.Note s line) a e h =
+pub input_given : (tabs : ℕ) (told : Told) (name xs : List ℕ) (most old new : ℕ) (v : Vec ℕ Global) (r : Result Text Stop) →
+    AnswersFetch told most (Ok v) → new ≡ old → xs ≡ v.items → ReadsInput tabs xs r → GivesInput tabs told name old new r
+input_given tabs told name xs most old new v (Ok text) a e i h = (e, (xs, subst (MayGive told) (sym i) (given told most v a), h))
+input_given tabs told name xs most old new v (Err (halt.Note s line)) a e i h =
+    refused s line.items xs e (subst (MayGive told) (sym i) (given told most v a)) h
+input_given tabs told name xs most old new v (Err halt.Memory) a e i h = inl e
+
+pub input_long : (tabs : ℕ) (told : Told) (name : List ℕ) (old new : ℕ) (stop : Stop) →
+    AnswersFetch told text.most_bytes (Err fetch.Long) → new ≡ old → IsTooLong stop → GivesInput tabs told name old new (Err stop)
+input_long tabs told name old new (halt.Note s line) a e h =
     let long = given_long told text.most_bytes a in
     refused s line.items long.0 e long.1.0
     (record { fault = text_fault.TooLong; faulty = inl long.1.1; cause = λ i. cc; status_is = h.0; note_is = h.1 })
-input_long told name old new halt.Memory a e h = inl e
+input_long tabs told name old new halt.Memory a e h = inl e
 
 pub forest_given : (told : Told) (name : List ℕ) (old new : ℕ) (v : Vec ℕ Global) → AnswersFetch told most_forest_bytes (Ok v) →
     new ≡ old → GivesForest told name old new (Ok v)

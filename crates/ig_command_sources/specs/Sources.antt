@@ -57,11 +57,11 @@ pub record IsNoInput (xs : List ℕ) (s : Status) (note : List ℕ) : Type 0 whe
   pub status_is : s ≡ status.Input
   pub note_is : note ≡ input_note fault
 
--- the bytes are the text, or none
-abbrev pub ReadsInput : List ℕ → Result Text Stop → Type 0
-ReadsInput xs (Ok text) = IsDecoded xs text
-ReadsInput xs (Err (halt.Note s line)) = IsNoInput xs s line.items
-ReadsInput xs (Err halt.Memory) = Unit {0}
+-- the bytes are the text, with tabs of this width, or none
+abbrev pub ReadsInput : ℕ → List ℕ → Result Text Stop → Type 0
+ReadsInput tabs xs (Ok text) = IsDecoded tabs xs text
+ReadsInput tabs xs (Err (halt.Note s line)) = IsNoInput xs s line.items
+ReadsInput tabs xs (Err halt.Memory) = Unit {0}
 
 -- how many bytes the text of a forest may have
 abbrev pub most_forest_bytes : ℕ
@@ -138,10 +138,10 @@ GivesList told name old new (Ok jobs) =
     (new ≡ old) × ((xs : List ℕ) × MayGive told xs × IsListOf xs (map stored_job jobs.items))
 GivesList told name old new (Err stop) = StopsFile told name old new IsNoList stop
 
--- a file that is to be an input
-abbrev pub GivesInput : Told → List ℕ → ℕ → ℕ → Result Text Stop → Type 0
-GivesInput told name old new (Ok text) = (new ≡ old) × ((xs : List ℕ) × MayGive told xs × IsDecoded xs text)
-GivesInput told name old new (Err stop) = StopsFile told name old new IsNoInput stop
+-- a file that is to be an input, with tabs of this width
+abbrev pub GivesInput : ℕ → Told → List ℕ → ℕ → ℕ → Result Text Stop → Type 0
+GivesInput tabs told name old new (Ok text) = (new ≡ old) × ((xs : List ℕ) × MayGive told xs × IsDecoded tabs xs text)
+GivesInput tabs told name old new (Err stop) = StopsFile told name old new IsNoInput stop
 
 -- the bytes of a file that is to be the text of a forest
 abbrev pub GivesForest : Told → List ℕ → ℕ → ℕ → Result (Vec ℕ Global) Stop → Type 0
@@ -159,8 +159,8 @@ LoadsGrammarText shelf name = GivesGrammarText (shelf.before.holds name) name sh
 abbrev pub LoadsList : Change ShelfState → List ℕ → Result (Vec Names Global) Stop → Type 0
 LoadsList shelf name = GivesList (shelf.before.holds name) name shelf.before.faults shelf.after.faults
 
-abbrev pub LoadsInput : Change ShelfState → List ℕ → Result Text Stop → Type 0
-LoadsInput shelf name = GivesInput (shelf.before.holds name) name shelf.before.faults shelf.after.faults
+abbrev pub LoadsInput : ℕ → Change ShelfState → List ℕ → Result Text Stop → Type 0
+LoadsInput tabs shelf name = GivesInput tabs (shelf.before.holds name) name shelf.before.faults shelf.after.faults
 
 abbrev pub LoadsForest : Change ShelfState → List ℕ → Result (Vec ℕ Global) Stop → Type 0
 LoadsForest shelf name = GivesForest (shelf.before.holds name) name shelf.before.faults shelf.after.faults

@@ -22,6 +22,7 @@ condition_text condition.SyntaxInLexical = codes "syntax in lexical"
 condition_text (condition.TooMany condition.Nonterminals) = codes "too many nonterminals"
 condition_text (condition.TooMany condition.Parameters) = codes "too many parameters"
 condition_text (condition.TooMany condition.Variables) = codes "too many variables"
+condition_text condition.BadTabs = codes "bad tabs"
 
 -- the text of a place
 abbrev pub place_text : Place → List ℕ

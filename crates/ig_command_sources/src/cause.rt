@@ -48,6 +48,7 @@ fn cause_text(cause: ScopeCause) -> &'static str
         ScopeCause::MarkInLexical => "mark in lexical",
         ScopeCause::SyntaxInLexical => "syntax in lexical",
         ScopeCause::TooMany { which } => many_text(which),
+        ScopeCause::BadTabs => "bad tabs",
     }
 }
 

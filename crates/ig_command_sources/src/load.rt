@@ -1,6 +1,7 @@
 //! Fetching and reading the files of a command.
 ghost use Rattle.std.specs.Prelude.{◌≡◌, ◌≤◌, ℕ, List, IfOk, length, vec_len};
 ghost use Rattle.ig_turns.specs.Lists.{most_jobs};
+ghost use Rattle.ig_text.specs.Input.{IsTabWidth};
 ghost use Rattle.ig_command_endings.specs.Change.{change, Fetched};
 ghost use Rattle.ig_command_sources.specs.Sources.{LoadsForest, LoadsGrammar, LoadsGrammarText};
 ghost use Rattle.ig_command_sources.specs.Sources.{LoadsInput, LoadsList, ReadsInput, ReadsList};
@@ -69,18 +70,26 @@ pub fn fetch_grammar<F: Shelf>(
     }
 }
 
-/// The text in the file of that name, which is fetched once.
+/// The text in the file of that name, with tabs of this width, from 1 to 16. The file is fetched
+/// once.
 ///
 /// Stops with the status `ReadFault` where the shelf holds nothing under the name or fails; with
 /// `Input` where there are more than 4,194,304 bytes or 1,048,576 characters, or the bytes aren't
 /// UTF-8; or for want of memory.
-pub fn load_input<F: Shelf>(alloc: Global, shelf: &mut F, name: &str) -> Result<Text, Stop>
-    ensures answer { LoadsInput (change (F.state shelf.old) (F.state shelf.new)) name.now result }
+pub fn load_input<F: Shelf>(
+    alloc: Global,
+    shelf: &mut F,
+    name: &str,
+    tabs: u32,
+) -> Result<Text, Stop>
+    requires { IsTabWidth tabs }
+    ensures answer { LoadsInput tabs (change (F.state shelf.old) (F.state shelf.new)) name.now
+        result }
     ensures counted { Fetched (change (F.state shelf.old) (F.state shelf.new)) 1 }
     ensures same { (n : List ℕ) → (F.state shelf.new).holds n ≡ (F.state shelf.old).holds n }
 {
     match shelf.fetch(alloc, name, MOST_INPUT_BYTES as u64) {
-        Ok(bytes) => read_input(alloc, bytes.as_slice()),
+        Ok(bytes) => read_input(alloc, bytes.as_slice(), tabs),
         Err(FetchFault::Long) => Err(too_long(alloc)),
         Err(FetchFault::Failed) => Err(cannot_read(alloc, name)),
         Err(FetchFault::Missing) => Err(cannot_read(alloc, name)),
@@ -139,12 +148,13 @@ fn read_jobs(alloc: Global, bytes: &[u8]) -> Result<Vec<Names>, Stop>
     }
 }
 
-/// The text of the bytes.
-fn read_input(alloc: Global, bytes: &[u8]) -> Result<Text, Stop>
-    ensures { ReadsInput bytes.now result }
+/// The text of the bytes, with tabs of this width.
+fn read_input(alloc: Global, bytes: &[u8], tabs: u32) -> Result<Text, Stop>
+    requires { IsTabWidth tabs }
+    ensures { ReadsInput tabs bytes.now result }
 {
     match Text::decode(alloc, bytes) {
-        Ok(text) => Ok(text),
+        Ok(text) => Ok(text.with_tabs(tabs)),
         Err(TextFault::NotUtf8 { at }) => Err(not_utf8(alloc, at)),
         Err(TextFault::TooLong) => Err(too_long(alloc)),
         Err(TextFault::Memory) => Err(Stop::Memory),

@@ -3,6 +3,7 @@ use Rattle.std.proofs.Common.{◌≡◌, ℕ, List, [], ◌∷◌, ◌++◌, map
 use Rattle.std.specs.Prelude.{All, ◌⊎◌, ◌≢◌}
 use Rattle.std.proofs.lemmas.List.{append-nil, length-map}
 use Rattle.std.proofs.lemmas.List.Elements.{All-head, All-tail}
+use Rattle.ig_text.specs.Input.{Input}
 use Rattle.ig_text.specs.Tree.{Tree, Trees, Leaf, Node, none, more, one}
 use Rattle.ig_text.specs.declared.pattern.Pattern.{Pattern}
 use Rattle.ig_text.specs.declared.pattern.Pattern.TheVariants as pattern
@@ -33,7 +34,7 @@ use Rattle.ig_core.specs.Steps.{step_with, step_of, steps_of}
 use Rattle.ig_core.proofs.Numbers.{Numbers}
 use Rattle.ig_core.proofs.Environments.{bound, names_bound, values_bound, names_let, values_let, values_from, bound_names, bound_values, passes_from}
 
-module _ (g : Grammar) (shapes : List Shape) (nonterminals : List Nonterminal) (number : List ℕ → ℕ) (May : List ℕ → ℕ → Type 0) (text : List ℕ)
+module _ (g : Grammar) (shapes : List Shape) (nonterminals : List Nonterminal) (number : List ℕ → ℕ) (May : List ℕ → ℕ → Type 0) (text : Input)
     (numbers : Numbers g shapes nonterminals number May) where
   pub record CoversFrom (c : DeclKind) (xs : List Symbol) (env : Environment) (i j : ℕ) (ts : Trees) : Type 0 where
     pub after : Environment

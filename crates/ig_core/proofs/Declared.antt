@@ -1,5 +1,5 @@
 -- The declarations of a grammar as it is written are nonterminals of its core grammar, under their numbers and names.
-use Rattle.std.proofs.Common.{◌≡◌, ◌∙◌, ℕ, zero, suc, ◌+◌, List, [], ◌∷◌, ◌++◌, map, Bool, true, false, if◌then◌else◌, Option, Some, length, slice_get, refl, sym, ap, ap₂, subst, arith}
+use Rattle.std.proofs.Common.{◌≡◌, ◌∙◌, ℕ, zero, suc, ◌+◌, List, [], ◌∷◌, ◌++◌, map, Bool, true, false, if◌then◌else◌, ℤ, Option, Some, length, slice_get, refl, sym, ap, ap₂, subst, arith}
 use Rattle.std.specs.Prelude.{◌==◌, option_map}
 use Rattle.std.proofs.lemmas.Option.{same_Some}
 use Rattle.std.proofs.lemmas.List.{map-append, append_assoc, length-map}
@@ -87,10 +87,10 @@ written g =
     })
 
 -- a pass keeps the shapes, and the names
-kept : (g : Grammar) (d : CheckedGrammar) (start : Option (List ℕ)) (decls : List Decl) → Stands g d →
+kept : (g : Grammar) (d : CheckedGrammar) (start : Option (List ℕ)) (tabs : Option ℤ) (decls : List Decl) → Stands g d →
     names decls ≡ names d.grammar.decls →
-    Stands g (record { grammar = record { start = start; decls = decls }; shapes = d.shapes })
-kept g d start decls s same =
+    Stands g (record { grammar = record { start = start; tabs = tabs; decls = decls }; shapes = d.shapes })
+kept g d start tabs decls s same =
     record {
       leads = record {
         others = s.leads.others;
@@ -125,25 +125,25 @@ names_without_blocks s (shape ∷ shapes) (d ∷ ds) e =
 after_levels : (g : Grammar) (d : CheckedGrammar) → Stands g (rooted Syntax d) → Stands g (LevelsOf d)
 after_levels g d s =
     let r = rooted Syntax d in
-    kept g r r.grammar.start (without_levels r.grammar).decls s
+    kept g r r.grammar.start r.grammar.tabs (without_levels r.grammar).decls s
     (same_names (without_levels_in (names_levelled r.grammar.decls)) (λ decl. refl) r.grammar.decls)
 
 after_blocks : (g : Grammar) (d : CheckedGrammar) → Stands g (rooted Syntax d) → Stands g (BlocksOf d)
 after_blocks g d s =
     let r = rooted Syntax d in
-    kept g r r.grammar.start (without_blocks r).grammar.decls s
+    kept g r r.grammar.start r.grammar.tabs (without_blocks r).grammar.decls s
     (names_without_blocks (setting_of r.grammar.decls r.shapes) r.shapes r.grammar.decls s.beside)
 
 after_layout : (g : Grammar) (d : CheckedGrammar) → Stands g (rooted Syntax d) → Stands g (LayoutOf d)
 after_layout g d s =
     let r = rooted Syntax d in
-    kept g r r.grammar.start (laid_of r).grammar.decls s
+    kept g r r.grammar.start r.grammar.tabs (laid_of r).grammar.decls s
     (same_names (laid_declaration r.grammar.decls) (λ decl. refl) r.grammar.decls)
 
 after_filters : (g : Grammar) (d : CheckedGrammar) → Stands g (rooted Syntax d) → Stands g (FiltersOf d)
 after_filters g d s =
     let r = rooted Syntax d in
-    kept g r r.grammar.start (attached_of r).grammar.decls s
+    kept g r r.grammar.start r.grammar.tabs (attached_of r).grammar.decls s
     (same_names (rewritten_declaration (λ decl. attached)) (λ decl. refl) r.grammar.decls)
 
 root_before : (shapes others : List Shape) → has_root shapes ≡ true → has_root (shapes ++ others) ≡ true

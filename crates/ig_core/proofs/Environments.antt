@@ -1,6 +1,7 @@
 -- Environments as names and values side by side.
 use Rattle.std.proofs.Common.{◌≡◌, ℕ, List, [], ◌∷◌, ◌++◌, map, Option, Some, None, refl, ap, ap₂, ◌∙◌, subst}
 use Rattle.std.proofs.lemmas.List.{map-append}
+use Rattle.ig_text.specs.Input.{Input}
 use Rattle.ig_text.specs.Pattern.{Matches}
 use Rattle.ig_expr.specs.Expression.{Expression}
 use Rattle.ig_expr.specs.Evaluation.{value_of}
@@ -51,12 +52,12 @@ with_let P env after name v is holds =
     (subst (λ z. P (names after) z) (ap values is ∙ values_let env name v) holds)
 
 -- the values of arguments
-pub values_to : (text : List ℕ) (env : Environment) (i : ℕ) {es : List Expression} {vs : List Value} → HaveValues text env i es vs →
+pub values_to : (text : Input) (env : Environment) (i : ℕ) {es : List Expression} {vs : List Value} → HaveValues text env i es vs →
     map (value_of text (names env) (values env) i) es ≡ map Some vs
 values_to text env i no_values = refl
 values_to text env i (next_value e es v vs has others) = ap₂ (λ x xs. x ∷ xs) has (values_to text env i others)
 
-pub values_from : (text : List ℕ) (env : Environment) (i : ℕ) (es : List Expression) (vs : List Value) →
+pub values_from : (text : Input) (env : Environment) (i : ℕ) (es : List Expression) (vs : List Value) →
     map (value_of text (names env) (values env) i) es ≡ map Some vs → HaveValues text env i es vs
 values_from text env i [] [] h = no_values
 values_from text env i [] (v ∷ vs) h = cc
@@ -73,7 +74,7 @@ bound_values no_parameters = refl
 bound_values (next_parameter p ps v vs env others more is) = ap values is ∙ ap (λ z. v ∷ z) (bound_values more)
 
 -- the filters that exclude
-pub passes_to : (text : List ℕ) (i e : ℕ) (fs : List Filter) → All IsExclusion fs → PassesAll text i e fs → MatchesNone text (exclusions fs) i e
+pub passes_to : (text : Input) (i e : ℕ) (fs : List Filter) → All IsExclusion fs → PassesAll text i e fs → MatchesNone text (exclusions fs) i e
 passes_to text i e [] are passes = All-nil (λ p. Matches text p i e → ⊥)
 passes_to text i e (Not p ∷ fs) are passes =
     All-cons (λ p. Matches text p i e → ⊥) p (exclusions fs) (All-head (Passes text i e) (Not p) fs passes)
@@ -81,7 +82,7 @@ passes_to text i e (Not p ∷ fs) are passes =
 passes_to text i e (NotFollowed p ∷ fs) are passes = absurd (All-head IsExclusion (NotFollowed p) fs are)
 passes_to text i e (NotPreceded p ∷ fs) are passes = absurd (All-head IsExclusion (NotPreceded p) fs are)
 
-pub passes_from : (text : List ℕ) (i e : ℕ) (fs : List Filter) → All IsExclusion fs → MatchesNone text (exclusions fs) i e → PassesAll text i e fs
+pub passes_from : (text : Input) (i e : ℕ) (fs : List Filter) → All IsExclusion fs → MatchesNone text (exclusions fs) i e → PassesAll text i e fs
 passes_from text i e [] are none = All-nil (Passes text i e)
 passes_from text i e (Not p ∷ fs) are none =
     All-cons (Passes text i e) (Not p) fs (All-head (λ p. Matches text p i e → ⊥) p (exclusions fs) none)

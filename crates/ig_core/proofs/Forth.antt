@@ -3,6 +3,7 @@ use Rattle.std.proofs.Common.{◌≡◌, ℕ, List, [], ◌∷◌, ◌++◌, Opt
 use Rattle.std.specs.Prelude.{All}
 use Rattle.std.proofs.lemmas.List.{append-nil}
 use Rattle.std.proofs.lemmas.List.Elements.{All-nil, All-head, All-tail}
+use Rattle.ig_text.specs.Input.{Input}
 use Rattle.ig_text.specs.Tree.{Tree, Trees, Leaf, none, more, join}
 use Rattle.ig_text.specs.declared.pattern.Pattern.{Pattern}
 use Rattle.ig_text.specs.Pattern.{Matches}
@@ -25,7 +26,7 @@ use Rattle.ig_core.specs.Steps.{step_with, step_of, steps_of}
 use Rattle.ig_core.proofs.Numbers.{made, Numbers}
 use Rattle.ig_core.proofs.Environments.{bound, with_label, with_let, values_to, bound_names, bound_values, passes_to}
 
-module _ (g : Grammar) (shapes : List Shape) (nonterminals : List Nonterminal) (number : List ℕ → ℕ) (May : List ℕ → ℕ → Type 0) (text : List ℕ)
+module _ (g : Grammar) (shapes : List Shape) (nonterminals : List Nonterminal) (number : List ℕ → ℕ) (May : List ℕ → ℕ → Type 0) (text : Input)
     (numbers : Numbers g shapes nonterminals number May) where
   -- nothing stands behind a token
   trail : {c : DeclKind} {e j : ℕ} {us : Trees} → Trails g shapes text c e j us → (e ≡ j) × (us ≡ none)

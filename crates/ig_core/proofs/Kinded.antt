@@ -5,6 +5,7 @@ use Rattle.std.specs.List.{flat_map}
 use Rattle.std.proofs.lemmas.List.{map-append, append-nil}
 use Rattle.std.proofs.lemmas.Option.{same_Some}
 use Rattle.std.proofs.lemmas.List.Elements.{All-head, All-tail}
+use Rattle.ig_text.specs.Input.{untabbed}
 use Rattle.ig_text.specs.declared.pattern.Pattern.{Pattern}
 use Rattle.ig_expr.specs.Expression.{Expression}
 use Rattle.ig_expr.specs.Kinds.{kind_in}
@@ -93,7 +94,7 @@ module _ (g : Grammar) (shapes : List Shape) (scoped : IsWellScoped g) (fit : Fi
         (label : Option (List ℕ)) (excluded : List Pattern) → CallFits core (names v) (kinds v) (step.Call (number name) arguments label excluded)
     arguments_fit v name arguments fine label excluded =
         let may = may_call g shapes scoped fit remaining decl (at v (Call name arguments)) name arguments fine refl in
-        let there = callee g shapes [] (has_core g shapes scoped fit remaining) name (length arguments) may in (
+        let there = callee g shapes (untabbed []) (has_core g shapes scoped fit remaining) name (length arguments) may in (
           nonterminal_of number (number name) there.0,
           there.1,
           args_fit (kind_in (names v) (kinds v)) arguments there.0.decl.params (ap (λ (z : Decl). length z.params) there.2 ∙ may.7)

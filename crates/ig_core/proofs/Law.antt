@@ -4,6 +4,7 @@ use Rattle.std.specs.Prelude.{◌⊎◌, ◌↔◌}
 use Rattle.std.specs.Option.{unwrap_or}
 use Rattle.std.proofs.lemmas.Option.{same_Some, slice_get_within}
 use Rattle.std.proofs.lemmas.List.Elements.{All-nil, All-cons}
+use Rattle.ig_text.specs.Input.{Input}
 use Rattle.ig_text.specs.declared.tag.Tag.TheVariants as tag
 use Rattle.ig_text.specs.Tree.{Tree, Trees, Node}
 use Rattle.ig_text.proofs.Pairwise.{beside}
@@ -74,7 +75,7 @@ to_number number n k x a is =
     alternative_at number x.shape n (alternatives x.decl.levels) is.0 a.alternative (without_level x.decl.levels is.0 a is.2) ∙
     ap (λ (z : ℕ). Some (record { tag = tag_of x.shape n z; steps = steps_of number a.alternative.symbols })) (sym is.1)
 
-module _ (g : Grammar) (shapes : List Shape) (text : List ℕ) (has : HasCore g shapes) where
+module _ (g : Grammar) (shapes : List Shape) (text : Input) (has : HasCore g shapes) where
   abbrev pub number : List ℕ → ℕ
   number = number_of g shapes
 
@@ -188,12 +189,12 @@ module _ (g : Grammar) (shapes : List Shape) (text : List ℕ) (has : HasCore g 
       }
 
   root_to : (root : Decl) (a : Levelled) (children : Trees) (t : Tree) → root_of g shapes ≡ root → root.params ≡ [] → IsAlternative root 1 a →
-      Leads (core_of g shapes) text [] [] (steps_of number a.alternative.symbols) 0 (length text) children → t ≡ Node tag.Root 0 (length text) children →
+      Leads (core_of g shapes) text [] [] (steps_of number a.alternative.symbols) 0 (length text.characters) children → t ≡ Node tag.Root 0 (length text.characters) children →
       CoreTree (core_of g shapes) text t
   root_to root a children t is plain alternative lead whole =
-      trees.node 0 1 [] (nonterminal_of number 0 (shaped root Root)) (record { tag = tag.Root; steps = steps_of number a.alternative.symbols }) 0 (length text)
+      trees.node 0 1 [] (nonterminal_of number 0 (shaped root Root)) (record { tag = tag.Root; steps = steps_of number a.alternative.symbols }) 0 (length text.characters)
       children t (root_is_alternative root a is alternative)
-      (subst (λ z. Leads (core_of g shapes) text z [] (steps_of number a.alternative.symbols) 0 (length text) children)
+      (subst (λ z. Leads (core_of g shapes) text z [] (steps_of number a.alternative.symbols) 0 (length text.characters) children)
       (sym (ap (λ ps. map (λ p. p.name) ps) plain)) lead) whole
 
   record RootFrom (c : DeclKind) (root : Decl) (t : Tree) : Type 0 where
@@ -201,10 +202,10 @@ module _ (g : Grammar) (shapes : List Shape) (text : List ℕ) (has : HasCore g 
     k : ℕ
     numbered : IsAlternative root k a
     children : Trees
-    covered : CoversFrom g shapes (core_of g shapes) number May text numbers c a.alternative.symbols [] 0 (length text) children
-    whole : t ≡ Node tag.Root 0 (length text) children
+    covered : CoversFrom g shapes (core_of g shapes) number May text numbers c a.alternative.symbols [] 0 (length text.characters) children
+    whole : t ≡ Node tag.Root 0 (length text.characters) children
 
-  root_from : {n : ℕ} {vs : List Value} {i j : ℕ} {t : Tree} → HasTree (core_of g shapes) text n vs i j t → n ≡ 0 → vs ≡ [] → i ≡ 0 → j ≡ length text →
+  root_from : {n : ℕ} {vs : List Value} {i j : ℕ} {t : Tree} → HasTree (core_of g shapes) text n vs i j t → n ≡ 0 → vs ≡ [] → i ≡ 0 → j ≡ length text.characters →
       (c : DeclKind) (root : Decl) → root_of g shapes ≡ root → root.params ≡ [] →
       ((k : ℕ) (a : Levelled) → IsAlternative root k a → All (Remains May) a.alternative.symbols) → RootFrom c root t
   root_from (trees.node n k vs nonterminal alternative i j ts t is lead whole) zero_n nil first last c root root_is plain all =
@@ -221,7 +222,7 @@ module _ (g : Grammar) (shapes : List Shape) (text : List ℕ) (has : HasCore g 
         numbered = at.numbered;
         children = ts;
         covered =
-            subst (λ z. CoversFrom g shapes (core_of g shapes) number May text numbers c at.a.alternative.symbols [] z (length text) ts) first
+            subst (λ z. CoversFrom g shapes (core_of g shapes) number May text numbers c at.a.alternative.symbols [] z (length text.characters) ts) first
             (subst (λ z. CoversFrom g shapes (core_of g shapes) number May text numbers c at.a.alternative.symbols [] i z ts) last from);
         whole =
             whole ∙ ap (λ (z : CoreAlt). Node z.tag i j ts) at.same ∙ ap (λ z. Node tag.Root z j ts) first ∙ ap (λ z. Node tag.Root 0 z ts) last;
@@ -283,7 +284,7 @@ module _ (g : Grammar) (shapes : List Shape) (text : List ℕ) (has : HasCore g 
   rooted_root decl at = ap (λ o. unwrap_or o (written_root g)) at.chosen
 
   permitted : TreesWithoutOperatorsAreClean → {t : Tree} (kind : DeclKind) (symbols : List Symbol) (children : Trees) → IsRootAlternative g shapes kind symbols →
-      CoversFrom g shapes (core_of g shapes) number May text numbers kind symbols [] 0 (length text) children → t ≡ Node tag.Root 0 (length text) children →
+      CoversFrom g shapes (core_of g shapes) number May text numbers kind symbols [] 0 (length text.characters) children → t ≡ Node tag.Root 0 (length text.characters) children →
       Permitted g shapes text t
   permitted clean {t = t} kind symbols children root covered whole =
       record {
@@ -308,7 +309,7 @@ module _ (g : Grammar) (shapes : List Shape) (text : List ℕ) (has : HasCore g 
           (λ k a is. subst (λ z. All (Remains May) z) (sym (written_is k a is)) (start_remains none.1)) in
           permitted clean Syntax start_calls from.children
           (written has.started.0 start_calls has.started.1 (λ d decl declares. no_declared none.1 has.started.0 d decl declares) refl)
-          (subst (λ z. CoversFrom g shapes (core_of g shapes) number May text numbers Syntax z [] 0 (length text) from.children)
+          (subst (λ z. CoversFrom g shapes (core_of g shapes) number May text numbers Syntax z [] 0 (length text.characters) from.children)
           (written_is from.k from.a from.numbered) from.covered) from.whole
       go (inr there) =
           let decl = there.0 in
@@ -379,7 +380,7 @@ module _ (g : Grammar) (shapes : List Shape) (text : List ℕ) (has : HasCore g 
   from_permitted t p =
       let at = root_alternative p.root in
       root_to at.root at.a p.children t at.is at.plain at.numbered
-      (subst (λ z. Leads (core_of g shapes) text [] [] (steps_of number z) 0 (length text) p.children) at.same
+      (subst (λ z. Leads (core_of g shapes) text [] [] (steps_of number z) 0 (length text.characters) p.children) at.same
       (leads g shapes (core_of g shapes) number May text numbers p.covered at.remains)) p.whole
 
   -- the root, with values
@@ -390,24 +391,24 @@ module _ (g : Grammar) (shapes : List Shape) (text : List ℕ) (has : HasCore g 
       let bound = values annotated.after in
       record {
         within =
-            item.node 0 1 [] (nonterminal_of number 0 (shaped at.root Root)) (record { tag = tag.Root; steps = steps }) 0 (length text) annotated.children bound u
+            item.node 0 1 [] (nonterminal_of number 0 (shaped at.root Root)) (record { tag = tag.Root; steps = steps }) 0 (length text.characters) annotated.children bound u
             (root_is_alternative at.root at.a at.is at.numbered)
-            (subst (λ z. item.Leaves (core_of g shapes) text z [] steps 0 (length text) annotated.children bound)
+            (subst (λ z. item.Leaves (core_of g shapes) text z [] steps 0 (length text.characters) annotated.children bound)
             (sym (ap (λ ps. map (λ p. p.name) ps) at.plain))
-            (subst (λ z. item.Leaves (core_of g shapes) text [] [] (steps_of number z) 0 (length text) annotated.children bound) at.same
+            (subst (λ z. item.Leaves (core_of g shapes) text [] [] (steps_of number z) 0 (length text.characters) annotated.children bound) at.same
             (leaves g shapes (core_of g shapes) number May text numbers annotated.binds at.remains)))
             annotated.whole;
         same = annotated.same;
       }
 
 -- the core grammar of what the passes leave has the trees that it permits
-pub core_trees_permitted : TreesWithoutOperatorsAreClean → (g : Grammar) (shapes : List Shape) (text : List ℕ) (t : Tree) →
+pub core_trees_permitted : TreesWithoutOperatorsAreClean → (g : Grammar) (shapes : List Shape) (text : Input) (t : Tree) →
     IsReady g shapes → CoreTree (core_of g shapes) text t ↔ Permitted g shapes text t
 core_trees_permitted clean g shapes text t ready =
     let has = ready_has_core g shapes ready in
     (to_permitted g shapes text has clean t, from_permitted g shapes text has t)
 
 -- and what annotates a permitted tree annotates it there
-pub core_values : (g : Grammar) (shapes : List Shape) (text : List ℕ) (t : Tree) (u : valued.Tree) → IsReady g shapes →
+pub core_values : (g : Grammar) (shapes : List Shape) (text : Input) (t : Tree) (u : valued.Tree) → IsReady g shapes →
     Annotates g shapes text t u → item.Annotates (core_of g shapes) text t u
 core_values g shapes text t u ready = from_annotated g shapes text (ready_has_core g shapes ready) t u

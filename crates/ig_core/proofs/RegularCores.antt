@@ -3,6 +3,7 @@ use Rattle.std.proofs.Common.{◌≡◌, ℕ, List, [], ◌∷◌, All, map, Opt
 use Rattle.std.specs.List.{flat_map}
 use Rattle.std.proofs.lemmas.List.{append-nil}
 use Rattle.std.proofs.lemmas.List.Elements.{All-nil, All-cons, All-head, All-tail, All-append}
+use Rattle.ig_text.specs.Input.{untabbed}
 use Rattle.ig_text.specs.declared.pattern.Pattern.{Pattern}
 use Rattle.ig_text.specs.declared.pattern.Pattern.TheVariants as pattern
 use Rattle.ig_text.proofs.Lists.{contains_from_at}
@@ -110,10 +111,10 @@ module _ (g : Grammar) (shapes : List Shape) (ready : IsReady g shapes) (well : 
   alternative_regular n a nonterminal alternative m (made_row is none) =
       let has = core_has g shapes ready.scoped ready.fit ready.remaining in
       let root : m.x.decl ≡ written_root g = ap (λ (z : Shaped). z.decl) is in
-      let symbols_are = written_is g shapes [] has a m.of.a (subst (λ (z : Decl). IsAlternative z a m.of.a) root m.of.numbered) in
-      let steps_same : steps_of number_here (start_calls g shapes [] has) ≡ alternative.steps =
+      let symbols_are = written_is g shapes (untabbed []) has a m.of.a (subst (λ (z : Decl). IsAlternative z a m.of.a) root m.of.numbered) in
+      let steps_same : steps_of number_here (start_calls g shapes (untabbed []) has) ≡ alternative.steps =
       ap (steps_of number_here) (sym symbols_are) ∙ sym (ap (λ (z : CoreAlt). z.steps) m.of.same) in
-      subst (All IsRegularStep) (ap (steps_of number_here) (sym (calls_are g shapes [] has)) ∙ steps_same)
+      subst (All IsRegularStep) (ap (steps_of number_here) (sym (calls_are g shapes (untabbed []) has)) ∙ steps_same)
       (All-cons IsRegularStep (step_of number_here (Call has.started.0 [])) [] (All-nil HasNoEmptyLiteral) (All-nil IsRegularStep))
 
 -- the core grammar of what all passes leave

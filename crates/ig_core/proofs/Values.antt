@@ -3,6 +3,7 @@ use Rattle.std.proofs.Common.{◌≡◌, ℕ, List, [], ◌∷◌, ◌++◌, len
 use Rattle.std.specs.Prelude.{All}
 use Rattle.std.proofs.lemmas.List.{append-nil, length-map}
 use Rattle.std.proofs.lemmas.List.Elements.{All-head, All-tail}
+use Rattle.ig_text.specs.Input.{Input}
 use Rattle.ig_text.specs.declared.pattern.Pattern.{Pattern}
 use Rattle.ig_text.specs.declared.pattern.Pattern.TheVariants as pattern
 use Rattle.ig_text.specs.declared.tag.Tag.{Tag}
@@ -42,7 +43,7 @@ no_mark May mark ok = ok
 behind_values : (env after : Environment) (vs : List Value) → values env ≡ vs → bound_between env after ≡ drop (length vs) (values after)
 behind_values env after vs is = ap (λ n. drop n (values after)) (sym (length-map env (λ p. p.1)) ∙ ap length is)
 
-module _ (g : Grammar) (shapes : List Shape) (nonterminals : List Nonterminal) (number : List ℕ → ℕ) (May : List ℕ → ℕ → Type 0) (text : List ℕ)
+module _ (g : Grammar) (shapes : List Shape) (nonterminals : List Nonterminal) (number : List ℕ → ℕ) (May : List ℕ → ℕ → Type 0) (text : Input)
     (numbers : Numbers g shapes nonterminals number May) where
   -- nothing stands behind a token
   behind : {c kind : DeclKind} {e j : ℕ} {us : Trees} → Behind g shapes text c kind e j us → (e ≡ j) × (us ≡ none)

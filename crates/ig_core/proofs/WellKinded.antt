@@ -5,6 +5,7 @@ use Rattle.std.specs.List.{flat_map}
 use Rattle.std.proofs.lemmas.List.{length-map}
 use Rattle.std.proofs.lemmas.Option.{same_Some, slice_get_within}
 use Rattle.std.proofs.lemmas.List.Elements.{All-head, All-tail}
+use Rattle.ig_text.specs.Input.{untabbed}
 use Rattle.ig_text.specs.declared.tag.Tag.{Tag}
 use Rattle.ig_text.specs.declared.tag.Tag.TheVariants as tag
 use Rattle.ig_text.specs.TagNumber as tag_number
@@ -147,9 +148,9 @@ module _ (g : Grammar) (shapes : List Shape) (scoped : IsWellScoped g) (fit : Fi
       is = same_Some (shaped (root_of g shapes) Root) x e
 
       go : ((Rattle.ig_core.specs.CoreOf.root_among g.decls shapes ≡ None) × NoRoot g.decls shapes) ⊎ ((decl : Decl) × RootAt g.decls shapes decl) → Row 0 x
-      go (inl none) = made_row (sym is ∙ ap (λ z. shaped z Root) (unrooted_root g shapes [] core_has none.0)) none.1
+      go (inl none) = made_row (sym is ∙ ap (λ z. shaped z Root) (unrooted_root g shapes (untabbed []) core_has none.0)) none.1
       go (inr at) =
-          let same : shaped at.0 Root ≡ x = ap (λ z. shaped z Root) (sym (rooted_root g shapes [] core_has at.0 at.1)) ∙ is in
+          let same : shaped at.0 Root ≡ x = ap (λ z. shaped z Root) (sym (rooted_root g shapes (untabbed []) core_has at.0 at.1)) ∙ is in
           declared_row at.1.k (at.1.decl_at ∙ ap (λ (z : Shaped). Some z.decl) same) (at.1.shape_at ∙ ap (λ (z : Shaped). Some z.shape) same)
   row (suc m) x e = let o = origin g.decls shapes m x e in declared_row o.k o.decl_at o.shape_at
 
@@ -183,12 +184,12 @@ module _ (g : Grammar) (shapes : List Shape) (scoped : IsWellScoped g) (fit : Fi
     differ : NoneTwice (nonterminal.params ++ flat_map names_of alternative.steps)
 
   -- the call of the start fits
-  made_fits : NoRoot g.decls shapes → AreFit core [] [] (steps_of number (start_calls g shapes [] core_has))
+  made_fits : NoRoot g.decls shapes → AreFit core [] [] (steps_of number (start_calls g shapes (untabbed []) core_has))
   made_fits none =
-      let may = may_start g shapes [] core_has none in
+      let may = may_start g shapes (untabbed []) core_has none in
       let start = core_has.started.0 in
-      let there = callee g shapes [] core_has start 0 may in
-      subst (λ z. AreFit core [] [] (steps_of number z)) (sym (calls_are g shapes [] core_has))
+      let there = callee g shapes (untabbed []) core_has start 0 may in
+      subst (λ z. AreFit core [] [] (steps_of number z)) (sym (calls_are g shapes (untabbed []) core_has))
       (next_step [] [] [] (step.Call (number start) [] None []) [] refl tt
       (nonterminal_of number (number start) there.0, there.1, no_kinds there.0.decl.params (ap (λ (z : Decl). length z.params) there.2 ∙ may.7)) (no_steps [] []))
     where
@@ -231,19 +232,19 @@ module _ (g : Grammar) (shapes : List Shape) (scoped : IsWellScoped g) (fit : Fi
           }
       go (made_row is none) =
           let root : m.x.decl ≡ written_root g = ap (λ (z : Shaped). z.decl) is in
-          let symbols_are = written_is g shapes [] core_has a m.of.a (subst (λ (z : Decl). IsAlternative z a m.of.a) root m.of.numbered) in
-          let steps_same : steps_of number (start_calls g shapes [] core_has) ≡ alternative.steps = ap (steps_of number) (sym symbols_are) ∙ sym steps_are in
+          let symbols_are = written_is g shapes (untabbed []) core_has a m.of.a (subst (λ (z : Decl). IsAlternative z a m.of.a) root m.of.numbered) in
+          let steps_same : steps_of number (start_calls g shapes (untabbed []) core_has) ≡ alternative.steps = ap (steps_of number) (sym symbols_are) ∙ sym steps_are in
           let no_params : [] ≡ nonterminal.params = ap (λ (z : Decl). map (λ p. p.name) z.params) (sym root) ∙ sym params_are in
           let no_kinds : [] ≡ nonterminal.kinds = ap (λ (z : Decl). map (λ p. p.kind) z.params) (sym root) ∙ sym kinds_are in
           let unbound : [] ≡ nonterminal.params ++ flat_map names_of alternative.steps =
-          ap (λ z. [] ++ flat_map names_of (steps_of number z)) (sym (calls_are g shapes [] core_has)) ∙
-          ap (λ z. z ++ flat_map names_of (steps_of number (start_calls g shapes [] core_has))) no_params ∙
+          ap (λ z. [] ++ flat_map names_of (steps_of number z)) (sym (calls_are g shapes (untabbed []) core_has)) ∙
+          ap (λ z. z ++ flat_map names_of (steps_of number (start_calls g shapes (untabbed []) core_has))) no_params ∙
           ap (λ z. nonterminal.params ++ flat_map names_of z) steps_same in
           record {
             fits =
                 subst (λ z. AreFit core nonterminal.params nonterminal.kinds z) steps_same
-                (subst (λ z. AreFit core nonterminal.params z (steps_of number (start_calls g shapes [] core_has))) no_kinds
-                (subst (λ z. AreFit core z [] (steps_of number (start_calls g shapes [] core_has))) no_params (made_fits none)));
+                (subst (λ z. AreFit core nonterminal.params z (steps_of number (start_calls g shapes (untabbed []) core_has))) no_kinds
+                (subst (λ z. AreFit core z [] (steps_of number (start_calls g shapes (untabbed []) core_has))) no_params (made_fits none)));
             differ = subst (λ (z : List (List ℕ)). NoneTwice z) unbound (λ i j name e f. cc);
           }
 
@@ -281,12 +282,12 @@ module _ (g : Grammar) (shapes : List Shape) (scoped : IsWellScoped g) (fit : Fi
           record {
             nonterminal = nonterminal_of number 0 (shaped (written_root g) Root);
             alternative = record { tag = tag.Root; steps = steps_of number (Rattle.ig_core.specs.CoreOf.start_symbols g g.start) };
-            first = ap (λ z. Some (nonterminal_of number 0 (shaped z Root))) (unrooted_root g shapes [] core_has none.0);
+            first = ap (λ z. Some (nonterminal_of number 0 (shaped z Root))) (unrooted_root g shapes (untabbed []) core_has none.0);
             plain = refl;
             single = refl;
             unbound =
                 ap (λ z. flat_map names_of (steps_of number z))
-                (Rattle.ig_core.proofs.Law.symbols_are g shapes [] core_has ∙ calls_are g shapes [] core_has);
+                (Rattle.ig_core.proofs.Law.symbols_are g shapes (untabbed []) core_has ∙ calls_are g shapes (untabbed []) core_has);
           }
       go (inr at) = single_root at.0 at.1 (alternatives at.0.levels) refl (core_has.rooted at.1.k at.0 at.1.decl_at at.1.shape_at).1
         where
@@ -299,7 +300,7 @@ module _ (g : Grammar) (shapes : List Shape) (scoped : IsWellScoped g) (fit : Fi
               record {
                 nonterminal = nonterminal_of number 0 (shaped decl Root);
                 alternative = record { tag = tag.Root; steps = steps_of number alt.symbols };
-                first = ap (λ z. Some (nonterminal_of number 0 (shaped z Root))) (rooted_root g shapes [] core_has decl r);
+                first = ap (λ z. Some (nonterminal_of number 0 (shaped z Root))) (rooted_root g shapes (untabbed []) core_has decl r);
                 plain = ap (λ ps. map (λ p. p.name) ps) (core_has.rooted r.k decl r.decl_at r.shape_at).2;
                 single = ap (λ z. Rattle.ig_core.specs.CoreOf.alternatives_of number Root 0 1 z) is;
                 unbound =

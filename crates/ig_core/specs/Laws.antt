@@ -1,5 +1,6 @@
 -- The core grammar of a grammar has the trees that the grammar permits.
 use Rattle.std.specs.Prelude.{◌≡◌, ◌↔◌, ℕ, ◌<◌, ◌≤◌, List, Some, length, slice_get, option_map, map, true}
+use Rattle.ig_text.specs.Input.{Input}
 use Rattle.ig_text.specs.Tree.{Tree}
 use Rattle.ig_expr.specs.ValuedTree as valued
 use Rattle.ig_text.specs.declared.tag.Tag.TheVariants.{Rule}
@@ -89,13 +90,13 @@ PassesKeep = (c : CheckedGrammar) → IsBuildable c → IsNumbered c → IsLeft 
 -- a grammar's core grammar has the trees that the grammar permits
 abbrev pub CoreTreesArePermitted : Type 0
 CoreTreesArePermitted =
-    (c : CheckedGrammar) (text : List ℕ) (t : Tree) → IsBuildable c → IsNumbered c →
+    (c : CheckedGrammar) (text : Input) (t : Tree) → IsBuildable c → IsNumbered c →
     CoreTree (CoreOf c) text t ↔ Permitted c.grammar c.shapes text t
 
 -- and what annotates a permitted tree annotates it as a tree of the core grammar
 abbrev pub ValuesAreThoseOfCore : Type 0
 ValuesAreThoseOfCore =
-    (c : CheckedGrammar) (text : List ℕ) (t : Tree) (u : valued.Tree) → IsBuildable c → IsNumbered c →
+    (c : CheckedGrammar) (text : Input) (t : Tree) (u : valued.Tree) → IsBuildable c → IsNumbered c →
     Permitted c.grammar c.shapes text t → Annotates c.grammar c.shapes text t u → core.Annotates (CoreOf c) text t u
 
 -- the core grammar of what the passes leave is well kinded, where it has few dots

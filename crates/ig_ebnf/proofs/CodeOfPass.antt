@@ -1,5 +1,5 @@
 -- The pass as the program does it: what is made is checked, and what is counted is few.
-use Rattle.std.proofs.Common.{◌≡◌, ℕ, ◌+◌, ◌<◌, ◌≤◌, List, Option, None, false, length, drop, sym, ap, subst, arith}
+use Rattle.std.proofs.Common.{◌≡◌, ℕ, ◌+◌, ◌<◌, ◌≤◌, ℤ, List, Option, None, false, length, drop, sym, ap, subst, arith}
 use Rattle.std.proofs.lemmas.List.{drop_all}
 use Rattle.ig_grammar.specs.Numbering.{layout_among}
 use Rattle.ig_grammar.specs.Checked.{CheckedGrammar, FitShapes}
@@ -25,22 +25,22 @@ module _ (law : LoweringKeeps) (c : CheckedGrammar) (sound : IsSound c) (free : 
     (unmarked : IsUnmarked c.grammar)
     (no_layout : layout_among c.grammar.decls ≡ None) (excluding : HasExclusionsAlone c.grammar)
     (few : HasFewLists c.grammar) where
-  made_is : (start : Option (List ℕ)) (decls : List Decl) → start ≡ c.grammar.start →
+  made_is : (start : Option (List ℕ)) (tabs : Option ℤ) (decls : List Decl) → start ≡ c.grammar.start → tabs ≡ c.grammar.tabs →
       decls ≡ (lowered_grammar c.grammar).decls →
-      lowered_grammar c.grammar ≡ record { start = start; decls = decls }
-  made_is start decls e f = λ i. record { start = sym e i; decls = sym f i }
+      lowered_grammar c.grammar ≡ record { start = start; tabs = tabs; decls = decls }
+  made_is start tabs decls e w f = λ i. record { start = sym e i; tabs = sym w i; decls = sym f i }
 
-  pub made_is_scoped : (start : Option (List ℕ)) (decls : List Decl) → start ≡ c.grammar.start →
+  pub made_is_scoped : (start : Option (List ℕ)) (tabs : Option ℤ) (decls : List Decl) → start ≡ c.grammar.start → tabs ≡ c.grammar.tabs →
       decls ≡ (lowered_grammar c.grammar).decls →
-      IsWellScoped (record { start = start; decls = decls })
-  made_is_scoped start decls e f = subst IsWellScoped (made_is start decls e f)
+      IsWellScoped (record { start = start; tabs = tabs; decls = decls })
+  made_is_scoped start tabs decls e w f = subst IsWellScoped (made_is start tabs decls e w f)
       (law c sound free unmarked no_layout excluding few).scoped
 
-  pub made_fits : (start : Option (List ℕ)) (decls : List Decl) (shapes : List Shape) → start ≡ c.grammar.start →
+  pub made_fits : (start : Option (List ℕ)) (tabs : Option ℤ) (decls : List Decl) (shapes : List Shape) → start ≡ c.grammar.start → tabs ≡ c.grammar.tabs →
       decls ≡ (lowered_grammar c.grammar).decls → shapes ≡ (lowered c).shapes →
-      FitShapes (record { start = start; decls = decls }) shapes
-  made_fits start decls shapes e f g =
-      subst (λ z. FitShapes z shapes) (made_is start decls e f)
+      FitShapes (record { start = start; tabs = tabs; decls = decls }) shapes
+  made_fits start tabs decls shapes e w f g =
+      subst (λ z. FitShapes z shapes) (made_is start tabs decls e w f)
       (subst (FitShapes (lowered_grammar c.grammar)) (sym g) (law c sound free unmarked no_layout excluding few).fit)
 
   pub root_is_fresh : (d : CheckedGrammar) → d ≡ lowered c → has_root d.shapes ≡ false → IsFresh d.grammar root_name

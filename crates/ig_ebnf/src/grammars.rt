@@ -116,9 +116,11 @@ fn lowered(alloc: Global, checked: &Checked) -> Result<Checked, AllocError>
 {
     lowering_keeps();
     let all = lowered_declarations(alloc, checked)?;
-    let start = copy_of_start(alloc, &checked.grammar().start)?;
+    let source = checked.grammar();
+    let start = copy_of_start(alloc, &source.start)?;
     let grammar = Grammar {
         start,
+        tabs: source.tabs,
         decls: all.decls,
     };
     Ok(Checked::with_shapes(grammar, all.shapes))

@@ -26,6 +26,7 @@ use Rattle.ig_meaning.specs.Derivation.{no_layout, outside}
 use Rattle.ig_meaning.specs.Environment.{Environment, HaveValues}
 use Rattle.ig_pass.specs.Added.{added_name}
 use Rattle.ig_pass.specs.Needs.{symbols_need, alternatives_need, needs}
+use Rattle.ig_text.specs.Input.{Input}
 use Rattle.ig_text.specs.Tree.{Tree, Trees, Node, none, one}
 
 pub alternative_at : (alts : List (List Symbol)) (n : ℕ) (zs : List Symbol) → slice_get alts n ≡ Some zs →
@@ -45,7 +46,7 @@ alternative_of (xs ∷ alts) ℕ.zero a e =
     ap (λ (z : Levelled). Some z.alternative.symbols) same
 alternative_of (xs ∷ alts) (suc n) a e = alternative_of alts n a e
 
-module _ (g' : Grammar) (shapes' : List Shape) (text : List ℕ) where
+module _ (g' : Grammar) (shapes' : List Shape) (text : Input) where
   pub instance_of : (name : List ℕ) (ps : Visible) (sh : Shape) (alts : List (List Symbol)) →
       (declared : (d : ℕ) × Declares g' shapes' name d (made name ps sh alts).decl sh) →
       (env : Environment) (ws : List Value) → Holds ps env ws → (n : ℕ) (zs : List Symbol) →

@@ -38,6 +38,7 @@ use Rattle.ig_meaning.specs.Environment.{Environment, HasValue, HaveValues, AreB
 use Rattle.ig_meaning.specs.Filtering.{PassesAll}
 use Rattle.ig_pass.specs.Added.{added_name}
 use Rattle.ig_pass.specs.Needs.{needs, alternatives_need, is_pair, bindings_use, is_bound}
+use Rattle.ig_text.specs.Input.{Input}
 use Rattle.ig_text.specs.Pattern.{IsOneOf}
 use Rattle.ig_text.specs.Place.{Spells}
 use Rattle.ig_text.specs.Tree.{Tree, Trees, Node, none, more, one, join}
@@ -51,7 +52,7 @@ use Rattle.ig_ebnf_variables.proofs.HigherDerivations.{part, plain_quiet, nothin
 use Rattle.ig_ebnf_variables.proofs.HigherDerivations as higher
 use Rattle.ig_ebnf_variables.proofs.Elements.{declared_first, declared_second, ready, all_ready}
 
-module _ (g g' : Grammar) (shapes shapes' : List Shape) (May : List ℕ → Type 0) (text : List ℕ)
+module _ (g g' : Grammar) (shapes shapes' : List Shape) (May : List ℕ → Type 0) (text : Input)
     (takes : Takes g g' shapes shapes' May) where
   abbrev CoversFrom : DeclKind → List Symbol → List Symbol → Environment → Environment → ℕ → ℕ → Trees → Type 0
   CoversFrom = higher.CoversFrom g shapes text

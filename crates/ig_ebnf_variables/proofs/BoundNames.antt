@@ -14,10 +14,11 @@ use Rattle.ig_meaning.specs.Derivation.{label, guard, let_be, absent}
 use Rattle.ig_meaning.specs.Derivation.{present, star, plus, sep_star, sep_plus, group, offside, ignore, align}
 use Rattle.ig_meaning.specs.Derivation.{filtered, sequence, entry}
 use Rattle.ig_meaning.specs.Environment.{Environment}
+use Rattle.ig_text.specs.Input.{Input}
 use Rattle.ig_text.specs.Tree.{Trees}
 use Rattle.ig_grammar.specs.Gathered.{gathered_listed}
 
-module _ (g : Grammar) (shapes : List Shape) (May : List ℕ → Type 0) (text : List ℕ) where
+module _ (g : Grammar) (shapes : List Shape) (May : List ℕ → Type 0) (text : Input) where
   mutual
     pub covers_add : {c : DeclKind} {ys : List Symbol} {env after : Environment} {i j : ℕ} {vs : Trees}
         {starts : List ℕ} →

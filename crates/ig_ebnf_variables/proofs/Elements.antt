@@ -17,6 +17,7 @@ use Rattle.ig_grammar.specs.declared.place.Shape.{Shape}
 use Rattle.ig_meaning.specs.Derivation.{Covers, Derives, empty, symbol, sequence}
 use Rattle.ig_meaning.specs.Environment.{Environment}
 use Rattle.ig_pass.specs.Needs.{needs, symbols_need}
+use Rattle.ig_text.specs.Input.{Input}
 use Rattle.ig_text.specs.Tree.{Trees, none, join}
 use Rattle.ig_text.proofs.Trees.{join-none, join_join}
 
@@ -24,7 +25,7 @@ abbrev pub sources : List Element → List Symbol
 sources [] = []
 sources (e ∷ es) = e.x ∷ sources es
 
-module _ (g : Grammar) (shapes : List Shape) (text : List ℕ) where
+module _ (g : Grammar) (shapes : List Shape) (text : Input) where
   -- with some starts
   pub record Reaches (c : DeclKind) (xs : List Symbol) (env : Environment) (i j : ℕ) (vs : Trees)
       (after : Environment) : Type 0 where

@@ -15,6 +15,7 @@ use Rattle.ig_grammar.specs.Binding.{Binding}
 use Rattle.ig_grammar.specs.Visible.{Visible, with_kind}
 use Rattle.ig_meaning.specs.Environment.{Environment, HaveValues, no_values, next_value, with_value, replaced}
 use Rattle.ig_pass.specs.Needs.{uses, bindings_use, is_bound}
+use Rattle.ig_text.specs.Input.{Input}
 use Rattle.ig_text.specs.Words.{is_word}
 use Rattle.ig_text.proofs.Characters.{itself}
 use Rattle.ig_grammar.specs.Visible as visible
@@ -88,7 +89,7 @@ binds_with v env m k w b =
           ap (λ z. z || is_word m n) (b.at n) ∙ sym (has_with v m k n);
     }
 
-pub binds_replaced : (text : List ℕ) (outer : Visible) (wanted : List ℕ → Bool) (bs : List Binding) (vs : List Value)
+pub binds_replaced : (text : Input) (outer : Visible) (wanted : List ℕ → Bool) (bs : List Binding) (vs : List Value)
     (i : ℕ) (base : Environment) (v : Visible) (env : Environment) →
     BindingsFit outer wanted bs → HaveValues text base i (map (λ b. b.value) bs) vs → Binds v env →
     Binds (visible.replaced outer v bs) (replaced env bs vs)
@@ -127,7 +128,7 @@ replaced_other (b ∷ bs) (v ∷ vs) env n e =
         ap (λ z. cond z (Some v) (find env n)) f
 
 -- the value of an argument is that of the variable inside
-pub argument_value : (text : List ℕ) (outer : Visible) (wanted : List ℕ → Bool) (bs : List Binding) (vs : List Value)
+pub argument_value : (text : Input) (outer : Visible) (wanted : List ℕ → Bool) (bs : List Binding) (vs : List Value)
     (i : ℕ) (base env' env : Environment) (n : List ℕ) →
     BindingsFit outer wanted bs → HaveValues text base i (map (λ b. b.value) bs) vs →
     Agree (λ m. bindings_use m bs) base env' →
@@ -156,7 +157,7 @@ argument_value text outer wanted (b ∷ bs) vs1 i base env' env n fit (next_valu
         other (ap (λ z. z || is_bound n bs) f ∙ o))
 
 -- arguments have these values where the parameters have them inside
-pub arguments_to : (text : List ℕ) (bs : List Binding) (ps : Visible) (i : ℕ) (env' within : Environment)
+pub arguments_to : (text : Input) (bs : List Binding) (ps : Visible) (i : ℕ) (env' within : Environment)
     (ws : List Value) →
     ((n : List ℕ) → has ps n ≡ true → valued text env' i (argument bs n) ≡ find within n) → Holds ps within ws →
     HaveValues text env' i (arguments bs ps) ws
@@ -168,7 +169,7 @@ arguments_to text bs (p ∷ ps) i env' within (w ∷ ws) same h =
     (same p.0 (or_left (is_word p.0 p.0) (has ps p.0) (itself p.0)) ∙ h.0)
     (arguments_to text bs ps i env' within ws (λ n e. same n (or_right (is_word p.0 n) (has ps n) e)) h.1)
 
-pub arguments_from : (text : List ℕ) (bs : List Binding) (ps : Visible) (i : ℕ) (env' within : Environment)
+pub arguments_from : (text : Input) (bs : List Binding) (ps : Visible) (i : ℕ) (env' within : Environment)
     (ws : List Value) →
     ((n : List ℕ) → has ps n ≡ true → valued text env' i (argument bs n) ≡ find within n) →
     HaveValues text env' i (arguments bs ps) ws → Holds ps within ws
@@ -180,7 +181,7 @@ arguments_from text bs (p ∷ ps) i env' within ws1 same (next_value e es w ws h
 )
 
 -- an argument that is there has a value
-pub argument_has : (text : List ℕ) (bs : List Binding) (ps : Visible) (i : ℕ) (env' : Environment) (ws : List Value)
+pub argument_has : (text : Input) (bs : List Binding) (ps : Visible) (i : ℕ) (env' : Environment) (ws : List Value)
     (n : List ℕ) →
     HaveValues text env' i (arguments bs ps) ws → has ps n ≡ true →
     is_some (valued text env' i (argument bs n)) ≡ true
@@ -194,7 +195,7 @@ argument_has text bs (p ∷ ps) i env' ws1 n (next_value e1 es w ws h hs) e =
         ap is_some h
     go false f below = below (sym (ap (λ z. z || has ps n) f) ∙ e)
 
-pub bindings_valued : (text : List ℕ) (outer : Visible) (wanted : List ℕ → Bool) (bs : List Binding) (i : ℕ)
+pub bindings_valued : (text : Input) (outer : Visible) (wanted : List ℕ → Bool) (bs : List Binding) (i : ℕ)
     (env : Environment) → BindingsFit outer wanted bs →
     ((n : List ℕ) → is_bound n bs ≡ true → is_some (valued text env i (argument bs n)) ≡ true) →
     (vs : List Value) × HaveValues text env i (map (λ b. b.value) bs) vs

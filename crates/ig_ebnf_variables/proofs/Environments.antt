@@ -6,6 +6,7 @@ use Rattle.std.proofs.Math.Bool.{or-false, or_assoc, and-false}
 use Rattle.std.specs.Prelude.{◌||◌, ◌&&◌, not, is_some, option_and_then}
 use Rattle.std.specs.Cmp.Lexicographic.{bytes_decides}
 use Rattle.std.specs.Option.{option_or}
+use Rattle.ig_text.specs.Input.{Input}
 use Rattle.ig_text.proofs.Positions.{beside-cons}
 use Rattle.ig_text.proofs.Characters.{itself}
 use Rattle.ig_text.proofs.Fallbacks.{or_none, or_cond, some_cond}
@@ -109,7 +110,7 @@ binds_more {v = v} {w = w} b a =
     record { at = λ n. a.at n ∙ ap (λ z. z || has w n) (b.at n) ∙ sym (has_append v w n) }
 
 -- expressions
-module _ (text : List ℕ) where
+module _ (text : Input) where
   abbrev pub valued : Environment → ℕ → Expression → Option Value
   valued env i e = value_of text (names env) (values env) i e
 
@@ -187,7 +188,7 @@ held (p ∷ ps) env env' (w ∷ ws) h s = (
   held ps env env' ws h.1 (record { at = λ n e. s.at n (or_right (is_word p.0 n) (has ps n) e) }),
 )
 
-pub holding : (text : List ℕ) (ps : Visible) (env : Environment) (i : ℕ) (ws : List Value) → Holds ps env ws →
+pub holding : (text : Input) (ps : Visible) (env : Environment) (i : ℕ) (ws : List Value) → Holds ps env ws →
     HaveValues text env i (arguments [] ps) ws
 holding text [] env i [] h = no_values
 holding text [] env i (w ∷ ws) h = absurd h
@@ -195,7 +196,7 @@ holding text (p ∷ ps) env i [] h = absurd h
 holding text (p ∷ ps) env i (w ∷ ws) h =
     next_value (Variable p.0) (arguments [] ps) w ws h.0 (holding text ps env i ws h.1)
 
-pub held_by : (text : List ℕ) (ps : Visible) (env : Environment) (i : ℕ) (ws : List Value) →
+pub held_by : (text : Input) (ps : Visible) (env : Environment) (i : ℕ) (ws : List Value) →
     HaveValues text env i (arguments [] ps) ws → Holds ps env ws
 held_by text [] env i [] no_values = tt
 held_by text [] env i (w ∷ ws) hs = elim hs [ ]

@@ -4,6 +4,7 @@ use Rattle.std.proofs.Common.{◌≡◌, ℕ, suc, ◌+◌, Bool, true, List, []
 use Rattle.std.specs.Prelude.{◌||◌, ◌&&◌, not}
 use Rattle.std.proofs.lemmas.List.{map-append}
 use Rattle.std.proofs.lemmas.Bool.{or_left, or_right, and_parts, and_from}
+use Rattle.ig_text.specs.Input.{Input}
 use Rattle.ig_text.specs.declared.tag.Tag.TheVariants as tag
 use Rattle.ig_ebnf_variables.proofs.BoundNames.{derives_add}
 use Rattle.ig_ebnf_variables.proofs.EntryValues.{binds_replaced, argument_value, arguments_to}
@@ -62,7 +63,7 @@ form_single (Align _) f = absurd f
 form_single (Filtered _ _) f = absurd f
 form_single (Entry _ _) f = absurd f
 
-module _ (g g' : Grammar) (shapes shapes' : List Shape) (May : List ℕ → Type 0) (text : List ℕ)
+module _ (g g' : Grammar) (shapes shapes' : List Shape) (May : List ℕ → Type 0) (text : Input)
     (takes : Takes g g' shapes shapes' May) where
   pub record CoversTo (c : DeclKind) (zs : List Symbol) (env env' : Environment) (i j : ℕ) (vs : Trees)
       (after : Environment) : Type 0 where

@@ -26,6 +26,7 @@ use Rattle.ig_meaning.specs.Derivation.{alternative}
 use Rattle.ig_meaning.specs.Environment.{Environment}
 use Rattle.ig_pass.specs.Added.{added_name}
 use Rattle.ig_pass.specs.Needs.{needs}
+use Rattle.ig_text.specs.Input.{Input}
 use Rattle.ig_text.specs.Tree.{Tree, Trees, more, one, join}
 use Rattle.ig_grammar.specs.declared.place.Shape.TheVariants as shape
 
@@ -47,7 +48,7 @@ plain_quiet p z = let bad : Plain ≡ Syntax = sym p ∙ z in absurd (cc)
 pub nothing_needed : (env env' : Environment) → Agree (λ n. elements_need n []) env env'
 nothing_needed env env' = record { at = λ n u. absurd (cc) }
 
-module _ (g : Grammar) (shapes : List Shape) (text : List ℕ) where
+module _ (g : Grammar) (shapes : List Shape) (text : Input) where
   -- two lists of symbols, each from an environment of its own
   pub record CoversFrom (c : DeclKind) (xs ys : List Symbol) (env low : Environment) (i j : ℕ) (vs : Trees) : Type 0
     where
@@ -144,7 +145,7 @@ module _ (g : Grammar) (shapes : List Shape) (text : List ℕ) where
   of_list {x = Seq _} same here is = absurd is
   of_list {x = Entry _ _} same here is = absurd is
 
-module _ (g g' : Grammar) (shapes shapes' : List Shape) (May : List ℕ → Type 0) (text : List ℕ)
+module _ (g g' : Grammar) (shapes shapes' : List Shape) (May : List ℕ → Type 0) (text : Input)
     (takes : Takes g g' shapes shapes' May) where
   pub trails_from : {d : DeclKind} {e j : ℕ} {us : Trees} (c : DeclKind) → Quiet g c → Quiet g' d →
       Trails g' shapes' text d e j us → Trails g shapes text c e j us

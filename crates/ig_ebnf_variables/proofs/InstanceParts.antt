@@ -24,6 +24,7 @@ use Rattle.ig_grammar.specs.declared.place.Shape.{Shape}
 use Rattle.ig_meaning.specs.Derivation.{Covers, empty, symbol}
 use Rattle.ig_meaning.specs.Environment.{Environment, HaveValues, AreBound}
 use Rattle.ig_pass.specs.Needs.{bindings_use, any_uses, is_bound, uses}
+use Rattle.ig_text.specs.Input.{Input}
 use Rattle.ig_text.specs.Tree.{Tree, Trees, Node, none}
 use Rattle.ig_text.specs.Words.{is_word}
 use Rattle.std.specs.Cmp.Lexicographic.{bytes_decides}
@@ -32,7 +33,7 @@ pub record Nothing (i j : ℕ) (vs : Trees) : Type 0 where
   pub place : i ≡ j
   pub trees : vs ≡ none
 
-pub nothing_of : {g : Grammar} {shapes : List Shape} {text : List ℕ} {c : DeclKind} {zs : List Symbol}
+pub nothing_of : {g : Grammar} {shapes : List Shape} {text : Input} {c : DeclKind} {zs : List Symbol}
     {env after : Environment} {i j : ℕ} {vs : Trees} {starts : List ℕ} →
     Covers g shapes text c zs env i j vs after starts → zs ≡ [] → Nothing i j vs
 nothing_of (empty c env i) e = record { place = refl; trees = refl }
@@ -81,7 +82,7 @@ opened {g' = g'} {shapes' = shapes'} takes title other ps sh alts declared {valu
     }
 
 -- the values of the variables that an added declaration gets
-pub form_holds : (text : List ℕ) (v : Visible) (wanted : List ℕ → Bool) (args : List Expression)
+pub form_holds : (text : Input) (v : Visible) (wanted : List ℕ → Bool) (args : List Expression)
     (env env' : Environment) (i : ℕ) (ws : List Value) →
     HaveValues text env' i args ws → args ≡ arguments [] (params_for v wanted) → Agree wanted env env' →
     Holds (params_for v wanted) env ws

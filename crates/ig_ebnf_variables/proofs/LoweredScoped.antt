@@ -261,6 +261,7 @@ module _ (c : CheckedGrammar) (given : Given c) where
             let same = all_once (n + i) (n + j) name (right_at (names g.decls) titles (n + i) i name refl p)
             (right_at (names g.decls) titles (n + j) j name refl q) in omega (arith, same));
         start = refl;
+        tabs = refl;
         bare = λ k d e before after started. ap (λ (z : Decl). z.params) (sym (new_at k d e before after));
       }
     where

@@ -1,4 +1,5 @@
 -- The pass keeps the permitted trees.
+use Rattle.ig_text.specs.Input.{Input}
 use Rattle.ig_text.proofs.Lists.{at_from_contains, either_place, from_map}
 use Rattle.std.proofs.lemmas.Option.{same_Some}
 use Rattle.ig_ebnf_variables.proofs.OfAdded.{of_added_at}
@@ -40,7 +41,7 @@ use Rattle.ig_grammar.specs.declared.place.Shape.TheVariants as shape
 use Rattle.ig_grammar.specs.Gathered.{listed_gathered}
 use Rattle.ig_ebnf_variables.proofs.Elements.{all_ready, reaching}
 
-module _ (clean_tree : TreesWithoutOperatorsAreClean) (g : Grammar) (shapes : List Shape) (text : List ℕ)
+module _ (clean_tree : TreesWithoutOperatorsAreClean) (g : Grammar) (shapes : List Shape) (text : Input)
     (may : MayBeLowered g shapes) where
   abbrev g' : Grammar
   g' = lowered_grammar g
@@ -161,7 +162,7 @@ module _ (clean_tree : TreesWithoutOperatorsAreClean) (g : Grammar) (shapes : Li
         root = to.root;
         binds = lower.bind;
         whole = annotates.whole ∙
-            ap (λ z. valued.Node tag.Root z 0 (length text) annotates.children) (same_values lower.grown);
+            ap (λ z. valued.Node tag.Root z 0 (length text.characters) annotates.children) (same_values lower.grown);
         same = annotates.same;
       }
 
@@ -169,10 +170,10 @@ module _ (clean_tree : TreesWithoutOperatorsAreClean) (g : Grammar) (shapes : Li
   pub record Backed (kind : DeclKind) (xs : List Symbol) (children : Trees) : Type 0 where
     pub after : Environment
     pub starts : List ℕ
-    pub covers : Covers g shapes text kind xs [] 0 (length text) children after starts
+    pub covers : Covers g shapes text kind xs [] 0 (length text.characters) children after starts
 
   backed : {kind : DeclKind} {zs : List Symbol} {children : Trees} {left : Environment} {starts : List ℕ} →
-      Covers g' shapes' text kind zs [] 0 (length text) children left starts →
+      Covers g' shapes' text kind zs [] 0 (length text.characters) children left starts →
       (of : List ℕ) (v : Visible) (k : ℕ) (xs : List Symbol) → zs ≡ new_symbols of v k (gathered xs) →
       SymbolsProper (IsOld g) v (gathered xs) → AllDeclared g' shapes' (added_symbols of v k (gathered xs)) →
       Binds v [] →
@@ -190,20 +191,20 @@ module _ (clean_tree : TreesWithoutOperatorsAreClean) (g : Grammar) (shapes : Li
         after = here.out;
         starts = inner.starts;
         covers =
-            subst (λ z. Covers g shapes text kind z [] 0 (length text) children here.out inner.starts)
+            subst (λ z. Covers g shapes text kind z [] 0 (length text.characters) children here.out inner.starts)
             (listed_gathered xs)
-            (subst (λ z. Covers g shapes text kind (listed (gathered xs)) [] 0 (length text) z here.out inner.starts)
+            (subst (λ z. Covers g shapes text kind (listed (gathered xs)) [] 0 (length text.characters) z here.out inner.starts)
             (sym all)
             (subst
-            (λ z. Covers g shapes text kind (listed (gathered xs)) [] z (length text) here.us here.out
+            (λ z. Covers g shapes text kind (listed (gathered xs)) [] z (length text.characters) here.us here.out
             inner.starts) (sym first.place) inner.covers));
       }
 
   start_from : (start : List ℕ) → g.start ≡ Some start →
       ((d : ℕ) (decl : Decl) → Declares g' shapes' start d decl shape.Root → ⊥) →
       (children : Trees) (after : Environment) (starts : List ℕ) →
-      Covers g' shapes' text Syntax (Call start [] ∷ []) [] 0 (length text) children after starts →
-      Permitted g shapes text (Node tag.Root 0 (length text) children)
+      Covers g' shapes' text Syntax (Call start [] ∷ []) [] 0 (length text.characters) children after starts →
+      Permitted g shapes text (Node tag.Root 0 (length text.characters) children)
   start_from start starts undeclared children after ks covers =
       let higher = backed covers [] [] 1 (Call start [] ∷ []) refl (start_old start starts, tt) tt binds_nothing in
       record {
@@ -218,14 +219,14 @@ module _ (clean_tree : TreesWithoutOperatorsAreClean) (g : Grammar) (shapes : Li
             (ap (λ z. behind_layout z (Call start [] ∷ [])) (sym may.no_layout));
         covered = higher.covers;
         whole = refl;
-        clean = clean_tree g free (Node tag.Root 0 (length text) children);
+        clean = clean_tree g free (Node tag.Root 0 (length text.characters) children);
       }
 
   declared_from : (start : List ℕ) (d : ℕ) (lower : Decl) (lower_a : Levelled) → g.start ≡ Some start →
       Declares g' shapes' start d lower shape.Root →
       IsAlternative lower 1 lower_a → (children : Trees) (after : Environment) (starts : List ℕ) →
-      Covers g' shapes' text lower.kind lower_a.alternative.symbols [] 0 (length text) children after starts →
-      Permitted g shapes text (Node tag.Root 0 (length text) children)
+      Covers g' shapes' text lower.kind lower_a.alternative.symbols [] 0 (length text.characters) children after starts →
+      Permitted g shapes text (Node tag.Root 0 (length text.characters) children)
   declared_from start d lower lower_a starts declares numbered children after ks covers =
       let from = takes.back start d lower shape.Root (start_old start starts) declares in
       let decl = from.decl in
@@ -248,10 +249,10 @@ module _ (clean_tree : TreesWithoutOperatorsAreClean) (g : Grammar) (shapes : Li
         root = declared start d decl num.a decl.kind _ starts from.declares num.numbered refl refl;
         covered =
             subst
-            (λ z. Covers g shapes text z num.a.alternative.symbols [] 0 (length text) children higher.after
+            (λ z. Covers g shapes text z num.a.alternative.symbols [] 0 (length text.characters) children higher.after
             higher.starts) (ap (λ (z : Decl). z.kind) from.same) higher.covers;
         whole = refl;
-        clean = clean_tree g free (Node tag.Root 0 (length text) children);
+        clean = clean_tree g free (Node tag.Root 0 (length text.characters) children);
       }
 
   back : (t : Tree) → Permitted g' shapes' text t → Permitted g shapes text t
@@ -259,19 +260,19 @@ module _ (clean_tree : TreesWithoutOperatorsAreClean) (g : Grammar) (shapes : Li
     where
       go : {kind : DeclKind} {symbols : List Symbol} {children : Trees} {after : Environment} {starts : List ℕ} →
           IsRootAlternative g' shapes' kind symbols →
-          Covers g' shapes' text kind symbols [] 0 (length text) children after starts →
-          Permitted g shapes text (Node tag.Root 0 (length text) children)
+          Covers g' shapes' text kind symbols [] 0 (length text.characters) children after starts →
+          Permitted g shapes text (Node tag.Root 0 (length text.characters) children)
       go {children = children} {after = after} {starts = starts} (written start symbols start_here undeclared same)
           covers =
           start_from start start_here undeclared children after starts
-          (subst (λ z. Covers g' shapes' text Syntax z [] 0 (length text) children after starts)
+          (subst (λ z. Covers g' shapes' text Syntax z [] 0 (length text.characters) children after starts)
           (same ∙ ap (λ z. behind_layout z (Call start [] ∷ [])) (takes.layout ∙ may.no_layout)) covers)
       go {children = children} {after = after} {starts = starts}
           (declared start d lower lower_a kind symbols start_here declares numbered kinds same) covers =
           declared_from start d lower lower_a start_here declares numbered children after starts
-          (subst (λ z. Covers g' shapes' text z lower_a.alternative.symbols [] 0 (length text) children after starts)
+          (subst (λ z. Covers g' shapes' text z lower_a.alternative.symbols [] 0 (length text.characters) children after starts)
           kinds
-          (subst (λ z. Covers g' shapes' text kind z [] 0 (length text) children after starts) same covers))
+          (subst (λ z. Covers g' shapes' text kind z [] 0 (length text.characters) children after starts) same covers))
 
 pub lowering_is_the_same : TreesWithoutOperatorsAreClean → (c : CheckedGrammar) → MayBeLowered c.grammar c.shapes →
     PermitSame c (lowered c)

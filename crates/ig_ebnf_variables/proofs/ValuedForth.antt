@@ -4,6 +4,7 @@ use Rattle.std.proofs.Common.{subst, Some, None}
 use Rattle.std.specs.Prelude.{◌&&◌, not}
 use Rattle.std.proofs.lemmas.List.{append-nil, append_assoc, map-append}
 use Rattle.std.proofs.lemmas.Bool.{or_left, or_right, and_parts, and_from}
+use Rattle.ig_text.specs.Input.{Input}
 use Rattle.ig_ebnf_variables.proofs.AddedInstances.{alternative_at, form_call}
 use Rattle.ig_ebnf_variables.proofs.Definitions.{has, find, Binds as Shows, Agree, Keeps, Quiet, Proper, SymbolsProper, AllDeclared}
 use Rattle.ig_ebnf_variables.proofs.Definitions.{IsForm, IsSingle, Takes}
@@ -85,7 +86,7 @@ pub same_values : {env env' after left : Environment} → Grown env env' after l
 same_values {env' = env'} grown =
     grown_values grown ∙ sym (ap (bound_between env') grown.lower ∙ values_behind env' grown.behind)
 
-module _ (g : Grammar) (shapes : List Shape) (text : List ℕ) where
+module _ (g : Grammar) (shapes : List Shape) (text : Input) where
   -- what symbols bind, and others behind them, all bind together
   joined : {c : DeclKind} {xs ys : List Symbol} {env between after : Environment} {i h j : ℕ} {ts us : Trees} →
       Bind g shapes text c xs env i h ts between → Bind g shapes text c ys between h j us after →
@@ -140,7 +141,7 @@ module _ (g : Grammar) (shapes : List Shape) (text : List ℕ) where
           (bind_adds inner v (subst (SymbolsProper May v) (sym (gathered_listed xs)) p))
       binds_add (a.entry c bindings x vs env inside after i e j ts have renewed inner) v p = adds_nothing env
 
-module _ (g g' : Grammar) (shapes shapes' : List Shape) (May : List ℕ → Type 0) (text : List ℕ)
+module _ (g g' : Grammar) (shapes shapes' : List Shape) (May : List ℕ → Type 0) (text : Input)
     (takes : Takes g g' shapes shapes' May) where
   -- the same trees without lists, from an environment that grows by the same
   pub record BindTo (c : DeclKind) (zs : List Symbol) (env env' : Environment) (i j : ℕ) (ts : Trees)

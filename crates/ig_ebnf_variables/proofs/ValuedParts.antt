@@ -5,6 +5,7 @@ use Rattle.std.specs.Prelude.{◌||◌, slice_get}
 use Rattle.std.proofs.lemmas.List.{append-nil}
 use Rattle.std.proofs.lemmas.Bool.{or_left, or_right}
 use Rattle.std.proofs.Math.Bool.{or-false}
+use Rattle.ig_text.specs.Input.{untabbed}
 use Rattle.ig_text.specs.declared.tag.Tag.{Tag}
 use Rattle.ig_text.specs.declared.tag.Tag.TheVariants as tag
 use Rattle.ig_ebnf_variables.proofs.AddedInstances.{chosen_to}
@@ -276,7 +277,7 @@ module _ (g' : Grammar) (shapes' : List Shape) (May : List ℕ → Type 0) (of :
         wanted = λ m e. sym (or-false (needs m (SepPlus x separator))) ∙ e;
       }
   parts_made (a.chosen choices k2 xs chosen) k p all =
-      let at = chosen_to g' shapes' [] May of v choices (suc k) chosen.0 xs chosen.2 p all.1 in
+      let at = chosen_to g' shapes' (untabbed []) May of v choices (suc k) chosen.0 xs chosen.2 p all.1 in
       record {
         of_shape = shape.Group;
         alts = new_alternatives of v (suc k) choices;

@@ -246,7 +246,7 @@ forms_of ms = map (λ (m : Made). m.shape) ms
 
 -- behind the declarations of the grammar stand those that are added, in the order in which their symbols stand
 abbrev pub lowered_grammar : Grammar → Grammar
-lowered_grammar g = record { start = g.start; decls = map new_declaration g.decls ++ decls_of (all_added g.decls) }
+lowered_grammar g = record { start = g.start; tabs = g.tabs; decls = map new_declaration g.decls ++ decls_of (all_added g.decls) }
 
 abbrev pub lowered : CheckedGrammar → CheckedGrammar
 lowered c = record { grammar = lowered_grammar c.grammar; shapes = c.shapes ++ forms_of (all_added c.grammar.decls) }

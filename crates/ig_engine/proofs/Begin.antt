@@ -7,6 +7,7 @@ use Rattle.std.specs.List.Sorted.{IsPermutation}
 use Rattle.std.proofs.lemmas.List.Sorted.{IsPermutation-sym, Contains-permutation, length_permutation}
 use Rattle.std.proofs.lemmas.List.{length-map}
 use Rattle.std.proofs.lemmas.Option.{get_or_from_slice_get, slice_get_within}
+use Rattle.ig_text.specs.Input.{Input}
 use Rattle.ig_text.proofs.Lists.{contains_from_at, contains_one, it_is_in, none_in_nil}
 use Rattle.ig_expr.specs.declared.value.Value.{Value}
 use Rattle.ig_item.specs.Items.{Item, MoreThan, first, root_instance}
@@ -35,7 +36,7 @@ use Rattle.ig_engine.specs.Given as laws
 use Rattle.ig_engine.specs.Stepping.{IsBegun, IsEmpty, IsUnbegun}
 use Rattle.ig_engine.specs.Reached.{Reached, AreTables, means, nodes_in, reached, seen}
 
-module _ (given : laws.Given) (core : List Nonterminal) (text : List ℕ) (envs : List (List Value)) (nodes : List shared.Node)
+module _ (given : laws.Given) (core : List Nonterminal) (text : Input) (envs : List (List Value)) (nodes : List shared.Node)
     (empty f : numbered.Finding) (env : ℕ) (once : NoneTwice envs) (at : slice_get envs env ≡ Some [])
     (nodes_are : nodes ≡ shared.fresh (record { nonterminal = 0; env = env; start = 0 }) ∷ []) (items : empty.items ≡ [])
     (ways : empty.ways ≡ record { firsts = []; further = []; ends = [] }) (waiting : empty.waiting ≡ [])
@@ -158,7 +159,7 @@ first_node old nodes called k false none found made =
     let m = found refl in
     absurd (none_in_nil m.1.0 (contains_from_at [] k m.1.0 (ap (λ (z : List shared.Node). slice_get z k) (sym none) ∙ m.1.1)))
 
-pub begins_with : (given : laws.Given) (core : List Nonterminal) (text : List ℕ) (budget : ℕ) (s : Reached) → IsEmpty s →
+pub begins_with : (given : laws.Given) (core : List Nonterminal) (text : Input) (budget : ℕ) (s : Reached) → IsEmpty s →
     (envs : List (List Value)) (env : ℕ) → NoneTwice envs → slice_get envs env ≡ Some [] → (nodes : List shared.Node) (root : ℕ) →
     nodes ≡ shared.fresh (record { nonterminal = 0; env = env; start = 0 }) ∷ [] → root ≡ 0 → (f : numbered.Finding) (item : stored.Item) →
     item ≡ first_stored root (record { nonterminal = 0; env = env; start = 0 }) 1 → (r : Result (Unit {0}) RunFault) →
@@ -175,21 +176,21 @@ begins_with given core text budget s e envs env once at nodes root nodes_are roo
     go (Err fault.Memory) q = tt
 
 -- memory ran out
-pub unbegun_exit : {T : Type 0} (core : List Nonterminal) (text : List ℕ) (budget : ℕ) (P : T → Type 0) (r : Result T RunFault) →
+pub unbegun_exit : {T : Type 0} (core : List Nonterminal) (text : Input) (budget : ℕ) (P : T → Type 0) (r : Result T RunFault) →
     IsErrAnd r (λ y. y ≡ fault.Memory) → MatchResult r P (IsUnbegun core text budget)
 unbegun_exit core text budget P r h =
     let e = err_from_is_err_and r h in
     subst (λ (z : Result _ RunFault). MatchResult z P (IsUnbegun core text budget)) (sym e.1)
     (subst (λ (z : RunFault). IsUnbegun core text budget z) (sym e.2) tt)
 
-pub unbegun_stops : {T : Type 0} (core : List Nonterminal) (text : List ℕ) (budget : ℕ) (P : T → Type 0) (r : Result T RunFault) (f : RunFault) →
+pub unbegun_stops : {T : Type 0} (core : List Nonterminal) (text : Input) (budget : ℕ) (P : T → Type 0) (r : Result T RunFault) (f : RunFault) →
     IsErrAnd r (λ y. y ≡ f) → IsUnbegun core text budget f → MatchResult r P (IsUnbegun core text budget)
 unbegun_stops core text budget P r f h d =
     let e = err_from_is_err_and r h in
     subst (λ (z : Result _ RunFault). MatchResult z P (IsUnbegun core text budget)) (sym e.1)
     (subst (λ (z : RunFault). IsUnbegun core text budget z) (sym e.2) d)
 
-pub unbegun_fault : {T : Type 0} (core : List Nonterminal) (text : List ℕ) (budget : ℕ) (r : Result T RunFault) (f : RunFault) →
+pub unbegun_fault : {T : Type 0} (core : List Nonterminal) (text : Input) (budget : ℕ) (r : Result T RunFault) (f : RunFault) →
     IsErrAnd r (λ y. y ≡ f) → IsUnbegun core text budget f → IfErr r (IsUnbegun core text budget)
 unbegun_fault core text budget r f h d =
     let e = err_from_is_err_and r h in

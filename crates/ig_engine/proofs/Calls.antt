@@ -3,6 +3,7 @@ use Rattle.std.proofs.Common.{◌≡◌, ◌⊎◌, ⊎_elim, inl, inr, ℕ, ◌
 use Rattle.std.specs.Prelude.{◌↔◌, Ok, Err, Option, None, IsTrue}
 use Rattle.std.proofs.lemmas.List.{map-append}
 use Rattle.std.proofs.lemmas.Option.{same_Some, slice_get_within}
+use Rattle.ig_text.specs.Input.{Input}
 use Rattle.ig_text.proofs.Lists.{contains_from_at, same_map, in_pushed, mapped_at, mapped_in, none_in_nil, place_last, unmapped_in}
 use Rattle.ig_text.specs.declared.pattern.Pattern.{Pattern}
 use Rattle.ig_expr.specs.Expression.{Expression}
@@ -42,7 +43,7 @@ use Rattle.ig_engine.proofs.Recording.{records_known}
 use Rattle.ig_engine.proofs.Stored.{WasThere, edge_keys, edge_was, edges_there, pops_there, same_keys_seen, same_keys_tables}
 use Rattle.ig_engine.proofs.Tables.{finding, grown_nodes, grown_tables}
 
-module _ (given : laws.Given) (core : List Nonterminal) (text : List ℕ) (budget : ℕ) (item : stored.Item) (number : ℕ) (s : Reached)
+module _ (given : laws.Given) (core : List Nonterminal) (text : Input) (budget : ℕ) (item : stored.Item) (number : ℕ) (s : Reached)
     (taking : Taking core text budget item number s) (root : HasRoot core) (names : List (List ℕ)) (n : ℕ) (arguments : List Expression)
     (label : Option (List ℕ)) (excluded : List Pattern)
     (stands : StandsBefore core (means s item) names (Call n arguments label excluded)) where

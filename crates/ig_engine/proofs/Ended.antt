@@ -5,6 +5,7 @@ use Rattle.std.specs.Result.{IsErrAnd}
 use Rattle.std.proofs.lemmas.Result.{err_from_is_err_and}
 use Rattle.std.proofs.lemmas.List.{length-map}
 use Rattle.std.proofs.lemmas.List.Sorted.{length_permutation}
+use Rattle.ig_text.specs.Input.{Input}
 use Rattle.ig_text.proofs.Lists.{map_twice, same_map}
 use Rattle.ig_item.specs.Items.{Item, MoreThan, Reachable}
 use Rattle.ig_item.specs.Recorded.{IsRecorded, Recording, recording}
@@ -32,7 +33,7 @@ use Rattle.ig_engine.specs.declared.progress.Progress.TheVariants as progress
 
 -- at the end all items are there, in the tables
 module _ (complete : EndedRunsAreComplete) (have_ways : EndedRunsHaveWays) (of_tables : NamedItemsAreOfTables) (core : List Nonterminal)
-    (text : List ℕ) (s : Reached) (tables : AreTables s) (whole : IsWhole core text (seen s) (nodes_in s)) (ended : s.found.waiting ≡ []) where
+    (text : Input) (s : Reached) (tables : AreTables s) (whole : IsWhole core text (seen s) (nodes_in s)) (ended : s.found.waiting ≡ []) where
   items_are : items_of (tables_by (keys_in s) s.envs s.found.items) ≡ (seen s).items
   items_are =
       same_map (item_of (tables_by (keys_in s) s.envs s.found.items)) (means s) s.found.items
@@ -84,14 +85,14 @@ recorded_within (Ok x) items budget e within = subst (λ (z : List stored.Item).
 recorded_within (Err f) items budget e within = tt
 
 -- the same core grammar, text and budget
-pub refused_there : (core grammar : List Nonterminal) (text string : List ℕ) (budget most : ℕ) (f : RunFault) → grammar ≡ core →
+pub refused_there : (core grammar : List Nonterminal) (text string : Input) (budget most : ℕ) (f : RunFault) → grammar ≡ core →
     string ≡ text → most ≡ budget → IsRefused core text budget f → IsRefused grammar string most f
 refused_there core grammar text string budget most f c t b r =
     subst (λ (z : List Nonterminal). IsRefused z string most f) (sym c)
-    (subst (λ (z : List ℕ). IsRefused core z most f) (sym t) (subst (λ (z : ℕ). IsRefused core text z f) (sym b) r))
+    (subst (λ (z : Input). IsRefused core z most f) (sym t) (subst (λ (z : ℕ). IsRefused core text z f) (sym b) r))
 
 -- where nothing waits there are no more items than the budget
-module _ (complete : EndedRunsAreComplete) (suffice : BudgetsSuffice) (core : List Nonterminal) (text : List ℕ) (budget : ℕ) (r : Running)
+module _ (complete : EndedRunsAreComplete) (suffice : BudgetsSuffice) (core : List Nonterminal) (text : Input) (budget : ℕ) (r : Running)
     (c : r.core ≡ core) (t : r.text ≡ text) (b : r.budget ≡ budget) (between : IsBetween r) (going : r.refused ≡ None)
     (ended : r.state.found.waiting ≡ []) where
   is_reached : IsReached r.core r.text r.budget r.state
@@ -115,7 +116,7 @@ module _ (complete : EndedRunsAreComplete) (suffice : BudgetsSuffice) (core : Li
       (follow_more (refused_there core r.core text r.text budget r.budget fault.Budget c t b m))
 
 -- each step takes one ticket, so there are as many steps as items
-pub less_is_left : (core : List Nonterminal) (text : List ℕ) (budget later : ℕ) (a b : Reached) (p : Progress) → p ≡ progress.More →
+pub less_is_left : (core : List Nonterminal) (text : Input) (budget later : ℕ) (a b : Reached) (p : Progress) → p ≡ progress.More →
     Steps core text budget a b (Ok p) → later ≡ budget →
     (later + length b.found.waiting) - length b.found.items < (budget + length a.found.waiting) - length a.found.items
 less_is_left core text budget later a b p more step same =
@@ -128,41 +129,41 @@ less_is_left core text budget later a b p more step same =
     let counts = next.1.counts in omega (arith, taken, before, after, within, counts, same)
 
 -- when it is done, none waits
-pub none_waits : (core : List Nonterminal) (text : List ℕ) (budget : ℕ) (a b : Reached) (p : Progress) → p ≡ progress.Done →
+pub none_waits : (core : List Nonterminal) (text : Input) (budget : ℕ) (a b : Reached) (p : Progress) → p ≡ progress.Done →
     Steps core text budget a b (Ok p) → b.found.waiting ≡ []
 none_waits core text budget a b p done step =
     let last : (a.found.waiting ≡ []) × (b ≡ a) = subst (λ (z : Progress). Steps core text budget a b (Ok z)) done step in
     ap (λ (z : Reached). z.found.waiting) last.1 ∙ last.0
 
 -- why it was refused
-refused_step : (core : List Nonterminal) (text : List ℕ) (budget : ℕ) (s : Reached) (f : RunFault) → Refuses core text budget s f →
+refused_step : (core : List Nonterminal) (text : Input) (budget : ℕ) (s : Reached) (f : RunFault) → Refuses core text budget s f →
     IsRefused core text budget f
 refused_step core text budget s fault.Budget r = r.1
 refused_step core text budget s fault.Memory r = tt
 
-unbegun : (core : List Nonterminal) (text : List ℕ) (budget : ℕ) (f : RunFault) → IsUnbegun core text budget f → IsRefused core text budget f
+unbegun : (core : List Nonterminal) (text : Input) (budget : ℕ) (f : RunFault) → IsUnbegun core text budget f → IsRefused core text budget f
 unbegun core text budget fault.Budget r = r.1
 unbegun core text budget fault.Memory r = tt
 
-exit : {T : Type 0} (core : List Nonterminal) (text : List ℕ) (budget : ℕ) (r : Result T RunFault) (f : RunFault) →
+exit : {T : Type 0} (core : List Nonterminal) (text : Input) (budget : ℕ) (r : Result T RunFault) (f : RunFault) →
     IsErrAnd r (λ y. y ≡ f) → IsRefused core text budget f → IfErr r (IsRefused core text budget)
 exit core text budget r f h d =
     let e = err_from_is_err_and r h in
     subst (λ (z : Result _ RunFault). IfErr z (IsRefused core text budget)) (sym e.1)
     (subst (λ (z : RunFault). IsRefused core text budget z) (sym e.2) d)
 
-pub step_exit : {T : Type 0} (core grammar : List Nonterminal) (text string : List ℕ) (budget most : ℕ) (s : Reached) (r : Result T RunFault)
+pub step_exit : {T : Type 0} (core grammar : List Nonterminal) (text string : Input) (budget most : ℕ) (s : Reached) (r : Result T RunFault)
     (f : RunFault) → IsErrAnd r (λ y. y ≡ f) → grammar ≡ core → string ≡ text → most ≡ budget →
     (t : Took s) × Refuses core text budget (without s t) f → IfErr r (IsRefused grammar string most)
 step_exit core grammar text string budget most s r f h c t b d =
     exit grammar string most r f h
     (refused_there core grammar text string budget most f c t b (refused_step core text budget (without s d.0) f d.1))
 
-pub start_exit : {T : Type 0} (core : List Nonterminal) (text : List ℕ) (budget : ℕ) (r : Result T RunFault) (f : RunFault) →
+pub start_exit : {T : Type 0} (core : List Nonterminal) (text : Input) (budget : ℕ) (r : Result T RunFault) (f : RunFault) →
     IsErrAnd r (λ y. y ≡ f) → IsUnbegun core text budget f → IfErr r (IsRefused core text budget)
 start_exit core text budget r f h d = exit core text budget r f h (unbegun core text budget f d)
 
-pub end_exit : {T : Type 0} (core grammar : List Nonterminal) (text string : List ℕ) (budget most : ℕ) (r : Result T RunFault) (f : RunFault) →
+pub end_exit : {T : Type 0} (core grammar : List Nonterminal) (text string : Input) (budget most : ℕ) (r : Result T RunFault) (f : RunFault) →
     IsErrAnd r (λ y. y ≡ f) → grammar ≡ core → string ≡ text → most ≡ budget → IsRefused core text budget f →
     IfErr r (IsRefused grammar string most)
 end_exit core grammar text string budget most r f h c t b d =

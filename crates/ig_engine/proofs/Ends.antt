@@ -2,6 +2,7 @@
 use Rattle.std.proofs.Common.{◌≡◌, ⊎_elim, inl, ℕ, suc, ◌<◌, List, length, Contains, Some, refl, sym, ap, ◌∙◌, subst, arith, slice_get, map}
 use Rattle.std.specs.Prelude.{Err, IsTrue}
 use Rattle.std.proofs.lemmas.Option.{same_Some, slice_get_within, get_or_from_slice_get}
+use Rattle.ig_text.specs.Input.{Input}
 use Rattle.ig_text.proofs.Lists.{contains_from_at, mapped_at, mapped_in, unmapped_at, unmapped_in}
 use Rattle.ig_item.specs.Items.{Item, IsComplete}
 use Rattle.ig_item.specs.Tables.{instance_by}
@@ -32,7 +33,7 @@ use Rattle.ig_engine.proofs.Recording.{no_new, records_alike}
 use Rattle.ig_engine.proofs.Stored.{edges_there, node_there, pop_keys, pop_was, pops_there, same_keys_seen, same_keys_tables}
 use Rattle.ig_engine.proofs.Tables.{grown_nodes}
 
-module _ (given : laws.Given) (core : List Nonterminal) (text : List ℕ) (budget : ℕ) (item : stored.Item) (number : ℕ) (s : Reached)
+module _ (given : laws.Given) (core : List Nonterminal) (text : Input) (budget : ℕ) (item : stored.Item) (number : ℕ) (s : Reached)
     (taking : Taking core text budget item number s) (complete : IsComplete core (means s item)) where
   abbrev it : Item
   it = means s item

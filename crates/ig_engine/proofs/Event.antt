@@ -5,6 +5,7 @@ use Rattle.std.specs.Result.{IsErrAnd}
 use Rattle.std.proofs.lemmas.List.{length-map}
 use Rattle.std.proofs.lemmas.Option.{slice_get_within}
 use Rattle.std.proofs.lemmas.Result.{err_from_is_err_and}
+use Rattle.ig_text.specs.Input.{Input}
 use Rattle.ig_text.proofs.Lists.{contains_from_at, mapped_in}
 use Rattle.ig_text.specs.declared.pattern.Pattern.{Pattern}
 use Rattle.ig_expr.specs.Expression.{Expression}
@@ -42,7 +43,7 @@ use Rattle.ig_engine.proofs.Nodes.{meets_nothing}
 use Rattle.ig_engine.proofs.Recording.{finds_alike, records_alike}
 use Rattle.ig_engine.proofs.Tables.{grown_nodes}
 
-module _ (given : laws.Given) (core : List Nonterminal) (text : List ℕ) (budget : ℕ) (item : stored.Item) (number : ℕ) (s : Reached)
+module _ (given : laws.Given) (core : List Nonterminal) (text : Input) (budget : ℕ) (item : stored.Item) (number : ℕ) (s : Reached)
     (taking : Taking core text budget item number s) where
   abbrev pub it : Item
   it = means s item
@@ -228,13 +229,13 @@ module _ (given : laws.Given) (core : List Nonterminal) (text : List ℕ) (budge
       (ap (λ (z : ℕ). step_at core z it.alternative it.dot) (sym is) ∙ none)
 
 -- the exits of a `?` in an event
-pub event_exit : (core : List Nonterminal) (text : List ℕ) (budget : ℕ) (a b : Reached) (r : Result (Unit {0}) RunFault) →
+pub event_exit : (core : List Nonterminal) (text : Input) (budget : ℕ) (a b : Reached) (r : Result (Unit {0}) RunFault) →
     IsErrAnd r (λ y. y ≡ fault.Memory) → Events core text budget a b r
 event_exit core text budget a b r h =
     let e = err_from_is_err_and r h in
     subst (Events core text budget a b) (sym e.1) (subst (λ (z : RunFault). Refuses core text budget a z) (sym e.2) tt)
 
-pub event_stops : (core : List Nonterminal) (text : List ℕ) (budget : ℕ) (a b : Reached) (r : Result (Unit {0}) RunFault) (f : RunFault) →
+pub event_stops : (core : List Nonterminal) (text : Input) (budget : ℕ) (a b : Reached) (r : Result (Unit {0}) RunFault) (f : RunFault) →
     IsErrAnd r (λ y. y ≡ f) → Refuses core text budget a f → Events core text budget a b r
 event_stops core text budget a b r f h d =
     let e = err_from_is_err_and r h in

@@ -3,6 +3,7 @@ use Rattle.std.proofs.Common.{◌≡◌, ⊎_elim, ℕ, List, [], ◌∷◌, ◌
 use Rattle.std.specs.Prelude.{Bool, true, slice_index_or}
 use Rattle.std.proofs.lemmas.List.Elements.{Contains-append_left, Contains-append_right}
 use Rattle.ig_text.proofs.Lists.{in_pushed, it_is_in, mapped_in, unmapped_in}
+use Rattle.ig_text.specs.Input.{Input}
 use Rattle.ig_text.specs.declared.pattern.Pattern.{Pattern}
 use Rattle.ig_item.specs.Core.{IsAlternative, numbered as member, steps_at}
 use Rattle.ig_item.specs.Items.{Item, Calls}
@@ -74,7 +75,7 @@ module _ (core : List Nonterminal) (keys : List InstanceKey) where
         none steps k (same_steps ∙ of) (let d = f.dot in let e = later.call.next in omega (arith, d, e, lt)) call)
 
     -- one does
-    pub is_later : (text : List ℕ) (s : Reached) → keys_in s ≡ keys → (callee : Instance) (label : Option (List ℕ)) (excluded : List Pattern) →
+    pub is_later : (text : Input) (s : Reached) → keys_in s ≡ keys → (callee : Instance) (label : Option (List ℕ)) (excluded : List Pattern) →
         Calls core text (means s it) callee label excluded → (CallsNothing core (nonterminal_in it) it.alternative it.dot → ⊥) → IsLater y
     is_later text s same callee label excluded calls some =
         let b = calls.before in
@@ -92,7 +93,7 @@ module _ (core : List Nonterminal) (keys : List InstanceKey) where
         }
 
 -- what is behind a call before which no other one stands
-pub behind_first : (core : List Nonterminal) (text : List ℕ) (caller : Item) (callee : Instance) (end : ℕ) (x : Item) →
+pub behind_first : (core : List Nonterminal) (text : Input) (caller : Item) (callee : Instance) (end : ℕ) (x : Item) →
     IsReturn core text caller callee end x → CallsNothing core caller.instance.nonterminal caller.alternative caller.dot → IsBehindFirst core x
 behind_first core text caller callee end x r none =
     record {

@@ -3,6 +3,7 @@ use Rattle.std.proofs.Common.{◌≡◌, ◌↔◌, ◌⊎◌, ⊎_elim, inl, in
 use Rattle.std.proofs.lemmas.List.{map-append}
 use Rattle.std.proofs.lemmas.Option.{same_Some}
 use Rattle.std.proofs.lemmas.List.Elements.{Contains-append_left, Contains-append_right}
+use Rattle.ig_text.specs.Input.{Input}
 use Rattle.ig_text.proofs.Lists.{at_from_contains, contains_from_at, in_pushed, it_is_in, mapped_at, mapped_in, none_in_nil}
 use Rattle.ig_expr.specs.declared.value.Value.{Value}
 use Rattle.ig_item.specs.Items.{Item, IsComplete}
@@ -162,7 +163,7 @@ module _ (nodes : List Node) (callee : Instance) (once : NoneTwice (keys_of node
               )) (in_pushed nodes (fresh callee) n c);
         }
 
-module _ (core : List Nonterminal) (text : List ℕ) (it : Item) (number : ℕ) (nodes : List Node) where
+module _ (core : List Nonterminal) (text : Input) (it : Item) (number : ℕ) (nodes : List Node) where
   -- an item that calls the instance: it waits in its node
   module _ (callee : Instance) (calls : IsCaller core text it callee) (one : (i : Instance) → IsCaller core text it i → i ≡ callee)
       (running : IsComplete core it → ⊥) (after : List Node) (have : HaveToo nodes after callee) (k : ℕ) (node : Node)

@@ -5,6 +5,7 @@ use Rattle.std.proofs.lemmas.Option.{same_Some, slice_get_within}
 use Rattle.std.proofs.lemmas.List.{append-nil}
 use Rattle.std.proofs.lemmas.List.Elements.{Contains-append_left, Contains-append_right, Contains-append_cases}
 use Rattle.std.proofs.lemmas.List.Sorted.{IsPermutation-reverse, Contains-permutation}
+use Rattle.ig_text.specs.Input.{Input}
 use Rattle.ig_text.specs.declared.pattern.Pattern.{Pattern}
 use Rattle.ig_text.proofs.Lists.{at_from_contains, contains_from_at, contains_one, it_is_in, left_at, mapped_at, mapped_in, none_in_nil}
 use Rattle.ig_expr.specs.declared.value.Value.{Value}
@@ -34,7 +35,7 @@ use Rattle.ig_engine.proofs.Lists.{at_middle, extends_at, extends_cases, in_reve
 use Rattle.ig_engine.proofs.Tables.{grown_means}
 
 -- the item behind the call of the item of number n, which is this one
-module _ (given : laws.Tables) (core : List Nonterminal) (text : List ℕ) (a : Reached) (t : AreTables a) (n : ℕ) (item : stored.Item)
+module _ (given : laws.Tables) (core : List Nonterminal) (text : Input) (a : Reached) (t : AreTables a) (n : ℕ) (item : stored.Item)
     (at : slice_get a.found.items n ≡ Some item) (done end : ℕ) (callee : Instance) (label : Option (List ℕ)) (excluded : List Pattern)
     (calls : Calls core text (means a item) callee label excluded) where
   abbrev Behind : Item → Item → Type 0
@@ -113,7 +114,7 @@ module _ (given : laws.Tables) (core : List Nonterminal) (text : List ℕ) (a : 
       indexed_then old y is f (Err e) p = tt
 
 -- the item of an edge
-module _ (core : List Nonterminal) (text : List ℕ) (a : Reached) (edge : Edge) (e : IsEdge core text a edge) (item : stored.Item)
+module _ (core : List Nonterminal) (text : Input) (a : Reached) (edge : Edge) (e : IsEdge core text a edge) (item : stored.Item)
     (at : slice_get a.found.items edge.item ≡ Some item) where
   edge_item : e.item ≡ item
   edge_item = same_Some e.item item (sym e.there ∙ at)
@@ -135,7 +136,7 @@ module _ (core : List Nonterminal) (text : List ℕ) (a : Reached) (edge : Edge)
       (subst (λ (z : Option (List ℕ)). Calls core text (means a item) e.callee z e.calls.excluded) b.0 edge_calls)
 
 -- an edge stays one as items and environments are added
-pub edge_on : (given : laws.Tables) (core : List Nonterminal) (text : List ℕ) (may : Way → Item → Type 0) (budget : ℕ) (a b : Reached) →
+pub edge_on : (given : laws.Tables) (core : List Nonterminal) (text : Input) (may : Way → Item → Type 0) (budget : ℕ) (a b : Reached) →
     AreTables a → IsAdded may budget a b → (edge : Edge) → IsEdge core text a edge → IsEdge core text b edge
 edge_on given core text may budget a b t d edge e =
     record {
@@ -152,25 +153,25 @@ edge_on given core text may budget a b t d edge e =
         ap (λ (z : List shared.Node). means (reached b.envs z b.found) e.item) d.nodes ∙ grown_means given a b.envs d.envs t e.item named
 
 -- a return by the item of a number, in lists that have the same item there
-same_return : (core : List Nonterminal) (text : List ℕ) (xs ys : List Item) (n done end : ℕ) (y : Item) → slice_get xs n ≡ Some y →
+same_return : (core : List Nonterminal) (text : Input) (xs ys : List Item) (n done end : ℕ) (y : Item) → slice_get xs n ≡ Some y →
     slice_get ys n ≡ Some y → (way : Way) (x : Item) → IsReturnBy core text xs n done end way x → IsReturnBy core text ys n done end way x
 same_return core text xs ys n done end y at there way x q =
     (q.0, there ∙ ap Some (sym (same_Some q.0 y (sym q.1 ∙ at))), q.2, q.3, q.4)
 
 -- x is behind a call of an item of one of these numbers
-abbrev pub IsReturnOf : List Nonterminal → List ℕ → List Item → {X : Type 0} → (X → ℕ) → (X → ℕ) → (X → ℕ) → List X → Way → Item → Type 0
+abbrev pub IsReturnOf : List Nonterminal → Input → List Item → {X : Type 0} → (X → ℕ) → (X → ℕ) → (X → ℕ) → List X → Way → Item → Type 0
 IsReturnOf core text items {X} number done end xs way x =
     (v : X) × Contains xs v × IsReturnBy core text items (number v) (done v) (end v) way x
 
 -- how far a walk has come that has these still before it
-pub record Walks (core : List Nonterminal) (text : List ℕ) (budget : ℕ) (a : Reached) {X : Type 0} (number done end : X → ℕ)
+pub record Walks (core : List Nonterminal) (text : Input) (budget : ℕ) (a : Reached) {X : Type 0} (number done end : X → ℕ)
     (whole rest : List X) (b : Reached) : Type 0 where
   pub visited : List X
   pub split : visited ++ rest ≡ whole
   pub adds : IsAdded (IsReturnOf core text (seen a).items number done end visited) budget a b
 
 -- one after the other of several returns, which come about by items of these numbers
-module _ (given : laws.Tables) (core : List Nonterminal) (text : List ℕ) (budget : ℕ) (a : Reached) (t : AreTables a) (X : Type 0)
+module _ (given : laws.Tables) (core : List Nonterminal) (text : Input) (budget : ℕ) (a : Reached) (t : AreTables a) (X : Type 0)
     (number done end : X → ℕ) where
   abbrev Of : List X → Way → Item → Type 0
   Of xs = IsReturnOf core text (seen a).items number done end xs
@@ -277,7 +278,7 @@ module _ (given : laws.Tables) (core : List Nonterminal) (text : List ℕ) (budg
       stops_alike (Of (reverse xs)) (Of xs) budget a b f (λ way x m. (m.0, in_reverse xs m.0 m.1, m.2)) d
 
 -- the step of an item that calls is a call
-pub call_there : (given : laws.Tables) (core : List Nonterminal) (text : List ℕ) (it : Item) (callee : Instance) (label : Option (List ℕ))
+pub call_there : (given : laws.Tables) (core : List Nonterminal) (text : Input) (it : Item) (callee : Instance) (label : Option (List ℕ))
     (excluded : List Pattern) → Calls core text it callee label excluded → (n : ℕ) → n ≡ it.instance.nonterminal →
     IsCallAt core n it.alternative it.dot label excluded
 call_there given core text it callee label excluded c n is =

@@ -3,6 +3,7 @@ use Rattle.std.proofs.Common.{◌≡◌, ⊎_elim, ℕ, List, ◌∷◌, Contain
 use Rattle.std.specs.Prelude.{Ok, Err}
 use Rattle.std.specs.List.Sorted.{IsPermutation}
 use Rattle.std.proofs.lemmas.List.Sorted.{IsPermutation-sym, Contains-permutation}
+use Rattle.ig_text.specs.Input.{Input}
 use Rattle.ig_text.proofs.Lists.{contains_first, contains_later, in_rest, mapped_at}
 use Rattle.ig_expr.specs.declared.value.Value.{Value}
 use Rattle.ig_item.specs.declared.core_grammar.Nonterminal.{Nonterminal}
@@ -17,7 +18,7 @@ use Rattle.ig_engine.specs.Adding.{IsOnward, Refuses}
 use Rattle.ig_engine.specs.Stepping.{Steps, Took}
 use Rattle.ig_engine.specs.Reached.{IsReached, Reached, Taking, means, reached, with_tickets}
 
-module _ (core : List Nonterminal) (text : List ℕ) (budget : ℕ) (envs : List (List Value)) (nodes : List shared.Node) (a b : numbered.Finding)
+module _ (core : List Nonterminal) (text : Input) (budget : ℕ) (envs : List (List Value)) (nodes : List shared.Node) (a b : numbered.Finding)
     (r : IsReached core text budget (reached envs nodes a)) (item : stored.Item) (number : ℕ)
     (at : slice_get a.items number ≡ Some item) (took : IsPermutation a.waiting (ticket_of item number ∷ b.waiting))
     (gone : Contains b.waiting (ticket_of item number) → ⊥) (items : b.items ≡ a.items) (ways : b.ways ≡ a.ways)

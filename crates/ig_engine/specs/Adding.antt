@@ -1,5 +1,6 @@
 -- What a function that adds items makes of a run, and what an event does.
 use Rattle.std.specs.Prelude.{◌≡◌, ◌↔◌, ◌⊎◌, ℕ, ◌+◌, ◌<◌, ◌≤◌, List, length, Contains, Bool, true, false, IsTrue, Option, Some, None, slice_get, Result, Ok, Err, MatchResult}
+use Rattle.ig_text.specs.Input.{Input}
 use Rattle.ig_item.specs.Items.{Item, MoreThan}
 use Rattle.ig_item.specs.declared.core_grammar.Nonterminal.{Nonterminal}
 use Rattle.ig_item.specs.declared.items.Instance.{Instance}
@@ -45,17 +46,17 @@ Adds may budget a b (Err fault.Budget) = IsOver may budget a b
 Adds may budget a b (Err fault.Memory) = Unit {0}
 
 -- x is behind the call of the item of number e, whose callee ended at `end`, where `done` is the complete item taken first
-abbrev pub IsReturnBy : List Nonterminal → List ℕ → List Item → ℕ → ℕ → ℕ → Way → Item → Type 0
+abbrev pub IsReturnBy : List Nonterminal → Input → List Item → ℕ → ℕ → ℕ → Way → Item → Type 0
 IsReturnBy core text items e done end way x =
     (caller : Item) × (slice_get items e ≡ Some caller) × (way ≡ Tree e done) × (callee : Instance) ×
     IsReturn core text caller callee end x
 
 -- and so for one of these edges; or of these pops
-abbrev pub IsReturnByOne : List Nonterminal → List ℕ → List Item → List Edge → ℕ → ℕ → Way → Item → Type 0
+abbrev pub IsReturnByOne : List Nonterminal → Input → List Item → List Edge → ℕ → ℕ → Way → Item → Type 0
 IsReturnByOne core text items edges done end way x =
     (e : Edge) × Contains edges e × IsReturnBy core text items e.item done end way x
 
-abbrev pub IsReturnAtOne : List Nonterminal → List ℕ → List Item → ℕ → List Pop → Way → Item → Type 0
+abbrev pub IsReturnAtOne : List Nonterminal → Input → List Item → ℕ → List Pop → Way → Item → Type 0
 IsReturnAtOne core text items e pops way x =
     (p : Pop) × Contains pops p × IsReturnBy core text items e p.done p.end way x
 
@@ -64,7 +65,7 @@ abbrev pub AreNew : Reached → (Way → Item → Type 0) → Type 0
 AreNew s may = (way : Way) (x : Item) → may way x → Contains (seen s).items x → ⊥
 
 -- no item is behind two edges of which one says that its call is the first
-abbrev pub AreApart : List Nonterminal → List ℕ → List Item → List Edge → ℕ → ℕ → Type 0
+abbrev pub AreApart : List Nonterminal → Input → List Item → List Edge → ℕ → ℕ → Type 0
 AreApart core text items edges done end =
     (d e : Edge) → Contains edges d → Contains edges e → IsTrue e.is_first → (v w : Way) (x : Item) →
     IsReturnBy core text items d.item done end v x → IsReturnBy core text items e.item done end w x → d.item ≡ e.item
@@ -96,19 +97,19 @@ ReturnsIn a b item prev done is_first budget (Err fault.Budget) =
 ReturnsIn a b item prev done is_first budget (Err fault.Memory) = Unit {0}
 
 -- why an event was refused; want of memory may come at any time
-abbrev pub Refuses : List Nonterminal → List ℕ → ℕ → Reached → RunFault → Type 0
+abbrev pub Refuses : List Nonterminal → Input → ℕ → Reached → RunFault → Type 0
 Refuses core text budget a fault.Budget =
     FollowMore core text (IsTaken (seen a).items a.found.waiting) budget × MoreThan core text budget
 Refuses core text budget a fault.Memory = Unit {0}
 
 -- an event is over: all that follows was found, and waits; nothing but the one ticket was taken
-pub record IsOnward (core : List Nonterminal) (text : List ℕ) (budget : ℕ) (a b : Reached) : Type 0 where
+pub record IsOnward (core : List Nonterminal) (text : Input) (budget : ℕ) (a b : Reached) : Type 0 where
   pub reached : IsReached core text budget b
   pub items : Extends (seen a).items (seen b).items
   pub waiting : (t : Ticket) →
       Contains b.found.waiting t ↔ (Contains a.found.waiting t ⊎ IsNewTicket (length (seen a).items) (seen b).items t)
   pub counts : length (seen b).items + length a.found.waiting ≡ length (seen a).items + length b.found.waiting
 
-abbrev pub Events : List Nonterminal → List ℕ → ℕ → Reached → Reached → Result (Unit {0}) RunFault → Type 0
+abbrev pub Events : List Nonterminal → Input → ℕ → Reached → Reached → Result (Unit {0}) RunFault → Type 0
 Events core text budget a b result =
     MatchResult result (λ u. IsOnward core text budget a b) (Refuses core text budget a)

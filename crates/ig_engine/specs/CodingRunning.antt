@@ -2,6 +2,8 @@
 -- How runs are stored.
 use Rattle.std.specs.Prelude.{ℕ, List, Option, refl}
 use Rattle.std.specs.Coded.{Coded, code_by, coded_ℕ, coded_list, coded_option, coded×}
+use Rattle.ig_text.specs.Input.{Input}
+use Rattle.ig_text.specs.contracts.text.Text as text
 use Rattle.ig_expr.specs.declared.value.Value.{Value}
 use Rattle.ig_expr.specs.contracts.value.Values as values
 use Rattle.ig_item.specs.Ways.{WayLists}
@@ -36,6 +38,6 @@ reached_code =
 
 abbrev pub running_code : Coded Running
 running_code =
-    code_by (List Nonterminal × (List ℕ × (ℕ × (Reached × Option RunFault))))
-    (coded× grammar.the_row.coded (coded× (coded_list coded_ℕ) (coded× coded_ℕ (coded× reached_code (coded_option fault.the_row.coded)))))
+    code_by (List Nonterminal × (Input × (ℕ × (Reached × Option RunFault))))
+    (coded× grammar.the_row.coded (coded× text.the_row.coded (coded× coded_ℕ (coded× reached_code (coded_option fault.the_row.coded)))))
     (λ r. (r.core, (r.text, (r.budget, (r.state, r.refused))))) (λ p. running p.0 p.1.0 p.1.1.0 p.1.1.1.0 p.1.1.1.1) (λ _. refl)

@@ -1,5 +1,6 @@
 -- What a run has come to: its environments, its nodes, and what it found, all by number; and what these stand for.
 use Rattle.std.specs.Prelude.{◌≡◌, ◌↔◌, ◌≤◌, ℕ, List, [], map, length, Contains, Option, Some, None, slice_get, slice_index_or, IsTrue}
+use Rattle.ig_text.specs.Input.{Input}
 use Rattle.ig_text.specs.declared.pattern.Pattern.{Pattern}
 use Rattle.ig_expr.specs.declared.value.Value.{Value}
 use Rattle.ig_item.specs.Items.{Item, Calls}
@@ -61,22 +62,22 @@ pub record AreTables (s : Reached) : Type 0 where
   pub numbers : length s.found.ways.firsts ≡ length s.found.items
 
 -- the item's call, if it stands before one, has neither a label nor an excluded pattern
-abbrev pub IsBare : List Nonterminal → List ℕ → Item → Type 0
+abbrev pub IsBare : List Nonterminal → Input → Item → Type 0
 IsBare core text it =
     (callee : Instance) (label : Option (List ℕ)) (excluded : List Pattern) → Calls core text it callee label excluded →
     (label ≡ None) × (excluded ≡ [])
 
 -- the item stands before a call whose arguments have values
-abbrev pub IsCalling : List Nonterminal → List ℕ → Item → Type 0
+abbrev pub IsCalling : List Nonterminal → Input → Item → Type 0
 IsCalling core text it = (callee : Instance) × IsCaller core text it callee
 
 -- what the edge says of the item's call is so
-pub record Says (core : List Nonterminal) (text : List ℕ) (e : Edge) (it : Item) : Type 0 where
+pub record Says (core : List Nonterminal) (text : Input) (e : Edge) (it : Item) : Type 0 where
   pub bare : IsTrue e.is_bare → IsBare core text it
   pub first : IsTrue e.is_first ↔ CallsNothing core it.instance.nonterminal it.alternative it.dot
 
 -- the item of the edge's number stands before a call, of which the edge says what is so
-pub record IsEdge (core : List Nonterminal) (text : List ℕ) (s : Reached) (e : Edge) : Type 0 where
+pub record IsEdge (core : List Nonterminal) (text : Input) (s : Reached) (e : Edge) : Type 0 where
   pub item : stored.Item
   pub there : slice_get s.found.items e.item ≡ Some item
   pub callee : Instance
@@ -84,7 +85,7 @@ pub record IsEdge (core : List Nonterminal) (text : List ℕ) (s : Reached) (e :
   pub says : Says core text e (means s item)
 
 -- each edge says of its item's call what is so
-pub record EdgesSay (core : List Nonterminal) (text : List ℕ) (s : Reached) : Type 0 where
+pub record EdgesSay (core : List Nonterminal) (text : Input) (s : Reached) : Type 0 where
   pub each : (node : shared.Node) → Contains s.nodes node → (e : Edge) → Contains node.edges e → (item : stored.Item) →
       slice_get s.found.items e.item ≡ Some item → Says core text e (means s item)
 
@@ -95,7 +96,7 @@ AreIndexed core keys found =
     IsBehindLater core (slice_index_or keys x.instance no_key).nonterminal x.alternative x.dot → Contains found.indexed x
 
 -- a run between two events, within its budget
-pub record IsReached (core : List Nonterminal) (text : List ℕ) (budget : ℕ) (s : Reached) : Type 0 where
+pub record IsReached (core : List Nonterminal) (text : Input) (budget : ℕ) (s : Reached) : Type 0 where
   pub tables : AreTables s
   pub whole : IsWhole core text (seen s) (nodes_in s)
   pub edges : EdgesSay core text s
@@ -107,7 +108,7 @@ abbrev pub with_tickets : numbered.Finding → List Ticket → numbered.Finding
 with_tickets f waiting = record { items = f.items; ways = f.ways; waiting = waiting; indexed = f.indexed }
 
 -- the ticket of the item, which has that number, was taken; before that the run was between two events
-pub record Taking (core : List Nonterminal) (text : List ℕ) (budget : ℕ) (item : stored.Item) (number : ℕ) (s : Reached) :
+pub record Taking (core : List Nonterminal) (text : Input) (budget : ℕ) (item : stored.Item) (number : ℕ) (s : Reached) :
     Type 0 where
   pub waiting : List Ticket
   pub before : IsReached core text budget (reached s.envs s.nodes (with_tickets s.found waiting))

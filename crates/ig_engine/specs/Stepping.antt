@@ -1,6 +1,7 @@
 -- The begin of a run, and its steps.
 use Rattle.std.specs.Prelude.{◌≡◌, ◌↔◌, ℕ, List, [], ◌∷◌, length, Contains, Result, Ok, Err}
 use Rattle.std.specs.List.Sorted.{IsPermutation}
+use Rattle.ig_text.specs.Input.{Input}
 use Rattle.ig_item.specs.Items.{MoreThan}
 use Rattle.ig_item.specs.declared.core_grammar.Nonterminal.{Nonterminal}
 use Rattle.ig_item.specs.declared.items.Item as stored
@@ -23,14 +24,14 @@ pub record IsEmpty (s : Reached) : Type 0 where
   pub waiting : s.found.waiting ≡ []
 
 -- the first root item was found, and its ticket waits alone; none is taken
-pub record IsBegun (core : List Nonterminal) (text : List ℕ) (budget : ℕ) (s : Reached) : Type 0 where
+pub record IsBegun (core : List Nonterminal) (text : Input) (budget : ℕ) (s : Reached) : Type 0 where
   pub between : IsReached core text budget s
   pub first : seen s ≡ begun s.found.waiting
   pub waits : (t : Ticket) → Contains s.found.waiting t ↔ (t ≡ record { position = 0; number = 0 })
   pub alone : length s.found.waiting ≡ 1
 
 -- why a run doesn't begin: the first root item is one more than the budget; or memory ran out
-abbrev pub IsUnbegun : List Nonterminal → List ℕ → ℕ → RunFault → Type 0
+abbrev pub IsUnbegun : List Nonterminal → Input → ℕ → RunFault → Type 0
 IsUnbegun core text budget fault.Budget = (budget ≡ 0) × MoreThan core text budget
 IsUnbegun core text budget fault.Memory = Unit {0}
 
@@ -46,7 +47,7 @@ without a t = reached a.envs a.nodes (with_tickets a.found t.rest)
 
 -- a step takes the ticket that the schedule gives, and then all that follows from its item and those taken before was found;
 -- it is done exactly where no ticket waits
-abbrev pub Steps : List Nonterminal → List ℕ → ℕ → Reached → Reached → Result Progress RunFault → Type 0
+abbrev pub Steps : List Nonterminal → Input → ℕ → Reached → Reached → Result Progress RunFault → Type 0
 Steps core text budget a b (Ok progress.Done) = (a.found.waiting ≡ []) × (b ≡ a)
 Steps core text budget a b (Ok progress.More) = (t : Took a) × IsOnward core text budget (without a t) b
 Steps core text budget a b (Err f) = (t : Took a) × Refuses core text budget (without a t) f

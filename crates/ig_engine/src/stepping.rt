@@ -1,6 +1,7 @@
 //! A run, one ticket at a time.
-ghost use Rattle.std.specs.Prelude.{◌≡◌, ◌<◌, ℕ, [], List, MatchResult, None, Some, Err, Ok};
+ghost use Rattle.std.specs.Prelude.{◌≡◌, ◌<◌, [], List, MatchResult, None, Some, Err, Ok};
 ghost use Rattle.std.specs.Prelude.{◌≤◌, IfErr, IfOk, length};
+ghost use Rattle.ig_text.specs.Input.{Input};
 ghost use Rattle.ig_engine.specs.Adding.{Events};
 ghost use Rattle.ig_engine.specs.Reached.{Taking, reached};
 ghost use Rattle.ig_engine.specs.Running.{IsBetween};
@@ -68,7 +69,7 @@ fn begin<S: Schedule + Drop>(
     budget: u32,
 ) -> Result<(), RunFault>
     requires { IsEmpty (reached state.old.envs.keys state.old.stacks state.old.found) }
-    ensures { (core : List tree.Nonterminal) (text : List ℕ) → MatchResult result
+    ensures { (core : List tree.Nonterminal) (text : Input) → MatchResult result
         (λ _. IsBegun core text budget
         (reached state.new.envs.keys state.new.stacks state.new.found))
         (IsUnbegun core text budget) }
@@ -88,7 +89,7 @@ fn begin<S: Schedule + Drop>(
 /// A state in which the first root item is found.
 fn begun<S: Schedule + Drop>(alloc: Global, budget: u32, schedule: S) -> Result<State<S>, RunFault>
     requires { S.waiting schedule ≡ [] }
-    ensures { (core : List tree.Nonterminal) (text : List ℕ) → MatchResult result
+    ensures { (core : List tree.Nonterminal) (text : Input) → MatchResult result
         (λ state. IsBegun core text budget (reached state.envs.keys state.stacks state.found))
         (IsUnbegun core text budget) }
 {

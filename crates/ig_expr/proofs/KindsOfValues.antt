@@ -2,6 +2,7 @@
 use Rattle.std.proofs.Common.{◌≡◌, ℕ, Bool, true, false, if◌then◌else◌, List, map, Option, Some, None, sym, ap, ◌∙◌}
 use Rattle.std.specs.Prelude.{ℤ, option_map, option_and_then, slice_get}
 use Rattle.std.proofs.lemmas.Option.{same_Some, slice_get-map}
+use Rattle.ig_text.specs.Input.{Input}
 use Rattle.ig_text.specs.Lines.{column_at}
 use Rattle.ig_text.specs.declared.text.Span.{Span}
 use Rattle.ig_expr.specs.Expression as tree
@@ -83,28 +84,28 @@ of_opposite : (a : Value) → IsOf kind.Int (opposite a)
 of_opposite (value.Int a) v e = of_integer _ v e
 of_opposite a v e = cc
 
-of_read_integer : (text : List ℕ) (f : Function) (p : ℤ) → IsOf kind.Int (read_integer text f p)
+of_read_integer : (text : Input) (f : Function) (p : ℤ) → IsOf kind.Int (read_integer text f p)
 of_read_integer text Column p v e = of_integer _ v e
 of_read_integer text Line p v e = of_integer _ v e
 of_read_integer text f p v e = cc
 
-of_read_span : (text : List ℕ) (f : Function) (s : Span) → IsOf kind.Int (read_span text f s)
+of_read_span : (text : Input) (f : Function) (s : Span) → IsOf kind.Int (read_span text f s)
 of_read_span text Begin s v e = sym (ap kind_of_value (same_Some _ v e))
 of_read_span text End s v e = sym (ap kind_of_value (same_Some _ v e))
 of_read_span text Size s v e = sym (ap kind_of_value (same_Some _ v e))
 of_read_span text Number s v e = of_integer _ v e
 of_read_span text f s v e = cc
 
-of_applied : (text : List ℕ) (f : Function) (a : Value) → IsOf kind.Int (applied text f a)
+of_applied : (text : Input) (f : Function) (a : Value) → IsOf kind.Int (applied text f a)
 of_applied text f (value.Int p) v e = of_read_integer text f p v e
 of_applied text f (value.Bool b) v e = cc
 of_applied text f (value.Span s) v e = of_read_span text f s v e
 
-of_same : (text : List ℕ) (a b : Value) → IsOf kind.Bool (same text a b)
+of_same : (text : Input) (a b : Value) → IsOf kind.Bool (same text a b)
 of_same text (value.Span s) (value.Span t) v e = of_truth _ v e
 of_same text a b v e = cc
 
-of_spells : (text word : List ℕ) (a : Value) → IsOf kind.Bool (spells text word a)
+of_spells : (text : Input) (word : List ℕ) (a : Value) → IsOf kind.Bool (spells text word a)
 of_spells text word (value.Span s) v e = of_truth _ v e
 of_spells text word a v e = cc
 
@@ -112,7 +113,7 @@ of_outer_by : (column : Option ℤ) (here : ℕ) (a b : ℤ) → IsOf kind.Int (
 of_outer_by None here a b v e = cc
 of_outer_by (Some column) here a b v e = sym (ap kind_of_value (same_Some _ v e))
 
-of_outer : (text : List ℕ) (here : ℕ) (a b : Value) → IsOf kind.Int (outer text here a b)
+of_outer : (text : Input) (here : ℕ) (a b : Value) → IsOf kind.Int (outer text here a b)
 of_outer text here (value.Int a) (value.Int b) v e = of_outer_by (column_at text b) here a b v e
 of_outer text here a b v e = cc
 
@@ -121,7 +122,7 @@ of_inside_by None start here a b v e = cc
 of_inside_by (Some column) None here a b v e = cc
 of_inside_by (Some column) (Some start) here a b v e = of_truth _ v e
 
-of_inside : (text : List ℕ) (here : ℕ) (a b : Value) → IsOf kind.Bool (inside text here a b)
+of_inside : (text : Input) (here : ℕ) (a b : Value) → IsOf kind.Bool (inside text here a b)
 of_inside text here (value.Int a) (value.Int b) v e = of_inside_by _ _ here a b v e
 of_inside text here a b v e = cc
 
@@ -178,7 +179,7 @@ beside values k v None e h = cc
 beside values k v (Some i) e h =
     same_Some (kind_of_value v) k (sym (ap (option_map kind_of_value) h) ∙ sym (slice_get-map kind_of_value values i) ∙ e)
 
-module _ (text : List ℕ) (names : List (List ℕ)) (values : List Value) (here : ℕ) where
+module _ (text : Input) (names : List (List ℕ)) (values : List Value) (here : ℕ) where
   -- with the kinds of the values themselves
   of_expression : (e : Expression) (k : Kind) (v : Value) → kind_in names (map kind_of_value values) e ≡ Some k →
       value_of text names values here e ≡ Some v → kind_of_value v ≡ k

@@ -6,6 +6,7 @@ use Rattle.std.specs.List.{list_all}
 use Rattle.std.proofs.lemmas.Option.{slice_get_within, get_or_from_slice_get}
 use Rattle.std.proofs.lemmas.List.{drop_more}
 use Rattle.std.proofs.lemmas.Bool.Decides.{nat_tests}
+use Rattle.ig_text.specs.Input.{Input}
 use Rattle.ig_text.specs.declared.text.Span.{Span}
 use Rattle.ig_expr.specs.Operations.{whole}
 use Rattle.ig_text.specs.Words.{is_digit}
@@ -17,12 +18,12 @@ abbrev pub reads : ℕ → List ℕ → Option ℕ
 reads n [] = Some n
 reads n (c ∷ cs) = option_and_then (λ m. reads m cs) (appended n c)
 
-pub range_more : (text : List ℕ) (p e c : ℕ) → slice_get text p ≡ Some c → p < e →
-    slice_range text p e ≡ c ∷ slice_range text (p + 1) e
+pub range_more : (text : Input) (p e c : ℕ) → slice_get text.characters p ≡ Some c → p < e →
+    slice_range text.characters p e ≡ c ∷ slice_range text.characters (p + 1) e
 range_more text p e c h lt =
-    let step : drop p text ≡ c ∷ drop (p + 1) text =
-    drop_more text p c (slice_get_within text p c h) ∙
-    ap (λ (z : ℕ). z ∷ drop (p + 1) text) (get_or_from_slice_get text p c c h) in
+    let step : drop p text.characters ≡ c ∷ drop (p + 1) text.characters =
+    drop_more text.characters p c (slice_get_within text.characters p c h) ∙
+    ap (λ (z : ℕ). z ∷ drop (p + 1) text.characters) (get_or_from_slice_get text.characters p c c h) in
     let n : e - p ≡ suc (e - (p + 1)) = omega arith in rw (n, step) refl
 
 pub grows : (cs : List ℕ) (n : ℕ) → n ≤ spelled n cs
@@ -60,41 +61,41 @@ spelled_by : (xs : List ℕ) → 0 < length xs → number_of (Some xs) ≡ optio
 spelled_by [] h = absurd (omega arith)
 spelled_by (c ∷ cs) h = reads_is (c ∷ cs) 0
 
-letters_are : (text : List ℕ) (s : Span) → s.begin < s.end → s.end ≤ length text →
-    letters_of text s ≡ Some (slice_range text s.begin s.end)
+letters_are : (text : Input) (s : Span) → s.begin < s.end → s.end ≤ length text.characters →
+    letters_of text s ≡ Some (slice_range text.characters s.begin s.end)
 letters_are text s h k =
     let onward : leb s.begin s.end ≡ true = grind (arith, nat_tests) in
-    let within : leb s.end (length text) ≡ true = grind (arith, nat_tests) in rw (onward, within) refl
+    let within : leb s.end (length text.characters) ≡ true = grind (arith, nat_tests) in rw (onward, within) refl
 
-pub number_is : (text : List ℕ) (s : Span) → s.begin < s.end → s.end ≤ length text →
-    number_of (letters_of text s) ≡ option_and_then (λ m. whole (pos m)) (reads 0 (slice_range text s.begin s.end))
+pub number_is : (text : Input) (s : Span) → s.begin < s.end → s.end ≤ length text.characters →
+    number_of (letters_of text s) ≡ option_and_then (λ m. whole (pos m)) (reads 0 (slice_range text.characters s.begin s.end))
 number_is text s h k =
     ap number_of (letters_are text s h k) ∙
-    spelled_by (slice_range text s.begin s.end)
-    (omega (arith, length-take (s.end - s.begin) (drop s.begin text), length-drop s.begin text))
+    spelled_by (slice_range text.characters s.begin s.end)
+    (omega (arith, length-take (s.end - s.begin) (drop s.begin text.characters), length-drop s.begin text.characters))
 
 -- a letter that isn't read ends the number
-pub number_ends : (text : List ℕ) (s : Span) (n p c : ℕ) → s.begin < s.end → s.end ≤ length text →
-    reads n (slice_range text p s.end) ≡ reads 0 (slice_range text s.begin s.end) → slice_get text p ≡ Some c →
+pub number_ends : (text : Input) (s : Span) (n p c : ℕ) → s.begin < s.end → s.end ≤ length text.characters →
+    reads n (slice_range text.characters p s.end) ≡ reads 0 (slice_range text.characters s.begin s.end) → slice_get text.characters p ≡ Some c →
     p < s.end → appended n c ≡ None → number_of (letters_of text s) ≡ None
 number_ends text s n p c h k e at lt stop =
     number_is text s h k ∙ ap (option_and_then (λ m. whole (pos m))) (sym e) ∙
     rw (range_more text p s.end c at lt, stop) refl
 
 -- a letter more is read
-pub number_goes_on : (text : List ℕ) (s : Span) (n m p c : ℕ) →
-    reads n (slice_range text p s.end) ≡ reads 0 (slice_range text s.begin s.end) → slice_get text p ≡ Some c →
+pub number_goes_on : (text : Input) (s : Span) (n m p c : ℕ) →
+    reads n (slice_range text.characters p s.end) ≡ reads 0 (slice_range text.characters s.begin s.end) → slice_get text.characters p ≡ Some c →
     p < s.end → appended n c ≡ Some m →
-    reads m (slice_range text (p + 1) s.end) ≡ reads 0 (slice_range text s.begin s.end)
+    reads m (slice_range text.characters (p + 1) s.end) ≡ reads 0 (slice_range text.characters s.begin s.end)
 number_goes_on text s n m p c e at lt more =
-    let here : reads n (slice_range text p s.end) ≡ reads m (slice_range text (p + 1) s.end) =
+    let here : reads n (slice_range text.characters p s.end) ≡ reads m (slice_range text.characters (p + 1) s.end) =
     rw (range_more text p s.end c at lt, more) refl in sym here ∙ e
 
 -- all letters are read
-pub number_read : (text : List ℕ) (s : Span) (n p : ℕ) → s.begin < s.end → s.end ≤ length text →
-    reads n (slice_range text p s.end) ≡ reads 0 (slice_range text s.begin s.end) → s.end ≤ p →
+pub number_read : (text : Input) (s : Span) (n p : ℕ) → s.begin < s.end → s.end ≤ length text.characters →
+    reads n (slice_range text.characters p s.end) ≡ reads 0 (slice_range text.characters s.begin s.end) → s.end ≤ p →
     whole (pos n) ≡ number_of (letters_of text s)
 number_read text s n p h k e le =
     let none : s.end - p ≡ 0 = omega arith in
-    let here : reads n (slice_range text p s.end) ≡ Some n = rw none refl in
+    let here : reads n (slice_range text.characters p s.end) ≡ Some n = rw none refl in
     sym (number_is text s h k ∙ ap (option_and_then (λ m. whole (pos m))) (sym e ∙ here))

@@ -2,6 +2,7 @@
 use Rattle.std.specs.Prelude.{ℕ, ◌&&◌, ◌||◌, if◌then◌else◌, List, Option, Some, None, ℤ, pos, int_lt}
 use Rattle.std.specs.Int.{int_max}
 use Rattle.std.specs.Ordering.{int_eq}
+use Rattle.ig_text.specs.Input.{Input}
 use Rattle.ig_text.specs.Lines.{column_at}
 use Rattle.ig_expr.specs.Operations.{integer, truth}
 use Rattle.ig_expr.specs.declared.value.Value.{Value}
@@ -12,7 +13,7 @@ outer_by None here a b = None
 outer_by (Some column) here a b = integer (Some (if int_eq (pos here) b then a else int_max a column))
 
 -- a where `here` is b, else the greater of a and the column of b
-abbrev pub outer : List ℕ → ℕ → Value → Value → Option Value
+abbrev pub outer : Input → ℕ → Value → Value → Option Value
 outer text here (value.Int a) (value.Int b) = outer_by (column_at text b) here a b
 outer text here a b = None
 
@@ -23,6 +24,6 @@ inside_by (Some column) (Some start) here a b =
     truth (int_lt a column && (int_eq (pos here) b || int_lt start column))
 
 -- whether the column of `here` is greater than a, and `here` is b or in a column greater than that of b
-abbrev pub inside : List ℕ → ℕ → Value → Value → Option Value
+abbrev pub inside : Input → ℕ → Value → Value → Option Value
 inside text here (value.Int a) (value.Int b) = inside_by (column_at text (pos here)) (column_at text b) here a b
 inside text here a b = None

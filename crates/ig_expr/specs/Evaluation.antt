@@ -1,5 +1,6 @@
 -- The values of expressions.
 use Rattle.std.specs.Prelude.{ℕ, not, List, Option, Some, None, option_and_then, pos}
+use Rattle.ig_text.specs.Input.{Input}
 use Rattle.ig_expr.specs.Expression as tree
 use Rattle.ig_expr.specs.Expression.{Expression}
 use Rattle.ig_expr.specs.Names.{look_up}
@@ -17,7 +18,7 @@ with_two f (Some a) None = None
 with_two f (Some a) (Some b) = f a b
 
 -- the value of an expression at a position, in the environment of the names and their values
-module _ (text : List ℕ) (names : List (List ℕ)) (values : List Value) (here : ℕ) where
+module _ (text : Input) (names : List (List ℕ)) (values : List Value) (here : ℕ) where
   abbrev pub value_of : Expression → Option Value
   value_of (tree.Integer n) = Some (value.Int n)
   value_of (tree.Truth b) = Some (value.Bool b)

@@ -1,5 +1,6 @@
 -- Worked values of expressions.
 use Rattle.std.specs.Prelude.{◌≡◌, ℕ, Bool, List, [], ◌∷◌, ◌++◌, Option, Some, None, false, true, codes, ℤ, pos, negsuc}
+use Rattle.ig_text.specs.Input.{Input, untabbed}
 use Rattle.ig_text.specs.declared.class.Class.TheVariants.{Ranges}
 use Rattle.ig_text.specs.declared.pattern.Pattern.{Pattern}
 use Rattle.ig_text.specs.declared.pattern.Pattern.TheVariants.{Literal, OneOf}
@@ -17,7 +18,7 @@ use Rattle.ig_expr.specs.declared.value.Value.TheVariants as value
 
 -- the value of an expression without variables, at the begin of no text
 abbrev pub alone : Expression → Option Value
-alone e = value_of [] [] [] 0 e
+alone e = value_of (untabbed []) [] [] 0 e
 
 abbrev pub on : Op → ℤ → ℤ → Option Value
 on op a b = alone (tree.Binary op (tree.Integer a) (tree.Integer b))
@@ -66,15 +67,15 @@ abbrev pub PartsWantValues : Type 0
 PartsWantValues = alone partial ≡ None
 
 -- twelve characters: 0 0 7, a space, é, a line feed, 7, é 7, a line feed, a space, 7
-abbrev pub sample : List ℕ
-sample = codes "007 " ++ 233 ∷ 10 ∷ 55 ∷ 233 ∷ 55 ∷ 10 ∷ 32 ∷ 55 ∷ []
+abbrev pub sample : Input
+sample = untabbed (codes "007 " ++ 233 ∷ 10 ∷ 55 ∷ 233 ∷ 55 ∷ 10 ∷ 32 ∷ 55 ∷ [])
 
 abbrev pub span : ℕ → ℕ → Value
 span i j = value.Span (record { begin = i; end = j })
 
 -- 2 ^ 63 in digits, which is past 64 bits with a sign
-abbrev pub large : List ℕ
-large = codes "9223372036854775808"
+abbrev pub large : Input
+large = untabbed (codes "9223372036854775808")
 
 -- what functions read off the text
 pub record WorkedReadings : Type 0 where

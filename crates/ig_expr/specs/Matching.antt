@@ -1,5 +1,6 @@
 -- Whether a pattern matches a text at a place.
 use Rattle.std.specs.Prelude.{ℕ, ◌+◌, ◌-◌, nat_le, Bool, false, ◌&&◌, List, length, slice_range, slice_get, Option, Some, None}
+use Rattle.ig_text.specs.Input.{Input}
 use Rattle.ig_text.specs.Class.{is_in_class}
 use Rattle.ig_text.specs.declared.class.Class.{Class}
 use Rattle.ig_text.specs.declared.pattern.Pattern.{Pattern}
@@ -16,11 +17,11 @@ is_some_of class None = false
 is_some_of class (Some c) = is_in_class class c
 
 -- whether the pattern matches at p
-abbrev pub matches_at : List ℕ → Pattern → ℕ → Bool
+abbrev pub matches_at : Input → Pattern → ℕ → Bool
 matches_at text (Literal word) p =
-    nat_le (p + length word) (length text) && is_word (slice_range text p (p + length word)) word
-matches_at text (OneOf class) p = is_some_of class (slice_get text p)
+    nat_le (p + length word) (length text.characters) && is_word (slice_range text.characters p (p + length word)) word
+matches_at text (OneOf class) p = is_some_of class (slice_get text.characters p)
 
 -- whether a match of the pattern ends at p
-abbrev pub matches_before : List ℕ → Pattern → ℕ → Bool
+abbrev pub matches_before : Input → Pattern → ℕ → Bool
 matches_before text pattern p = nat_le (width pattern) p && matches_at text pattern (p - width pattern)

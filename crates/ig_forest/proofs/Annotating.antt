@@ -3,6 +3,7 @@ use Rattle.std.proofs.lemmas.Option.{same_Some}
 use Rattle.std.proofs.Common.{◌≡◌, ℕ, suc, List, [], ◌∷◌, ◌++◌, map, Some, length, take, drop, slice_get, refl, sym, ap, ◌∙◌, subst, subst₂, take_all, le_of_eq}
 use Rattle.std.specs.List.{flat_map}
 use Rattle.std.specs.declared.cmp.Ordering.TheVariants as ordering
+use Rattle.ig_text.specs.Input.{Input}
 use Rattle.ig_text.specs.Tree as plain
 use Rattle.ig_text.specs.declared.tag.Tag.{Tag}
 use Rattle.ig_text.specs.declared.text.Span.{Span}
@@ -46,7 +47,7 @@ trees_in (Bind name e ∷ steps) = trees_in steps
 trees_in (Term what label excluded ∷ steps) = suc (trees_in steps)
 trees_in (Call callee arguments label excluded ∷ steps) = suc (trees_in steps)
 
-module _ (core : List Nonterminal) (text : List ℕ) where
+module _ (core : List Nonterminal) (text : Input) where
   -- steps have as many trees, whatever they leave
   counted : {names : List (List ℕ)} {env : List Value} {steps : List Step} {i j : ℕ} {ts : Trees} {after : List Value} →
       Leaves core text names env steps i j ts after → count_of ts ≡ trees_in steps

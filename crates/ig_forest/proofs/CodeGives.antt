@@ -1,6 +1,7 @@
 -- What the rules say at each step.
 use Rattle.std.proofs.Common.{◌≡◌, ℕ, ◌<◌, List, [], ◌∷◌, Some, Option, length, refl, sym, ap, ◌∙◌, subst, subst₂}
 use Rattle.std.proofs.lemmas.Option.{slice_get-get_or}
+use Rattle.ig_text.specs.Input.{Input}
 use Rattle.ig_text.specs.declared.pattern.Pattern.{Pattern}
 use Rattle.ig_text.specs.Pattern.{Matches}
 use Rattle.ig_text.proofs.Rising.{one_place}
@@ -30,7 +31,7 @@ complete_from_last core lists row s = record { nonterminal = s.nonterminal; alte
 abbrev pub last_from_complete : (core : List Nonterminal) (lists : List (List Value)) (row : ItemRow) → IsComplete core (item_by lists row) → StandsLast core row
 last_from_complete core lists row s = record { nonterminal = s.nonterminal; alternative = s.alternative; has = s.has; last = s.last }
 
-module _ (core : List Nonterminal) (text : List ℕ) (before_one : StandsBeforeOne) where
+module _ (core : List Nonterminal) (text : Input) (before_one : StandsBeforeOne) where
   pub by_test : {prev x : Item} {taken : Taken} → Gives core text prev taken x → (names : List (List ℕ)) (e : Expression) →
       StandsBefore core prev names (Test e) →
       (taken ≡ nothing) × HasValue text prev names e (Bool Rattle.std.specs.Prelude.true) × (x ≡ past prev [] prev.position)

@@ -1,10 +1,9 @@
 -- The entries of live items, made from their ways.
-use Rattle.std.proofs.Common.{◌≡◌, ◌↔◌, inl, inr, ℕ, suc, ◌+◌, ◌<◌, ◌≤◌, List, [], ◌∷◌, ◌++◌, Some, Less, length, map, drop, get_or, slice_get, Contains, IsPermutation, IsSorted, refl, sym, ap, ◌∙◌, subst, arith}
+use Rattle.std.proofs.Common.{◌≡◌, ◌↔◌, ◌⊎◌, inl, inr, ℕ, ◌+◌, ◌<◌, ◌≤◌, List, [], ◌∷◌, ◌++◌, Some, Less, length, map, get_or, slice_get, Contains, IsPermutation, IsSorted, refl, sym, ap, ◌∙◌, subst, arith}
 use Rattle.std.specs.List.{dedup, AllAdjacentBelow}
 use Rattle.std.specs.List.Sorted.{IsStrictlySortedBy}
 use Rattle.std.specs.Ordering.{nat_cmp, eq_by_cmp}
 use Rattle.std.proofs.Math.ListN.{set}
-use Rattle.std.proofs.Math.Seq.{drop-cons}
 use Rattle.std.proofs.lemmas.Bool.Decides.{Decides-eqb}
 use Rattle.std.proofs.lemmas.Cmp.{nat_cmp_total}
 use Rattle.std.proofs.lemmas.List.{get_or-set_same, get_or-set_other, length-set}
@@ -16,7 +15,7 @@ use Rattle.std.proofs.lemmas.Map.Lookups.{exact_unsigned}
 use Rattle.std.proofs.lemmas.Map.Made.{IsDistinct-from_AllPairs, is_member-Decides}
 use Rattle.std.proofs.lemmas.Map.Steps.{length-le_from_distinct_below}
 use Rattle.std.proofs.lemmas.Option.{same_Some, slice_get-get_or, slice_get_within, get_or_from_slice_get}
-use Rattle.ig_text.proofs.Lists.{contains_from_at, mapped_in, unmapped_in, contains_later, in_rest}
+use Rattle.ig_text.proofs.Lists.{at_from_contains, contains_from_at, mapped_in, unmapped_in, none_in_nil}
 use Rattle.ig_text.proofs.Once.{once_members}
 use Rattle.ig_text.proofs.Orders.{below_or_at}
 use Rattle.ig_text.proofs.Rising.{one_sorted}
@@ -120,45 +119,100 @@ once_rising entries shown is rising = record {
       (sorted_from_all_adjacent entry_total shown Begin (λ k lt. rising k Begin lt));
 }
 
--- the entries of the further ways from that place on
-pub record AreGathered (s : Sources) (further : List FurtherWay) (place : ℕ) (es : List Entry) : Type 0 where
-  pub members : (e : Entry) → Contains es e ↔ ((more : FurtherWay) × Contains (drop place further) more × (e ≡ further_entry s more))
+-- what is from that place on is it, or from the next one on
+below_or_at_first : (k begin place : ℕ) → place + 1 ≡ begin → place ≤ k → (begin ≤ k) ⊎ (k ≡ place)
+below_or_at_first k begin place next from = elim (below_or_at place k (omega (arith, from))) [
+  | inl lt ↦ inl (omega (arith, lt, next))
+  | inr at ↦ inr (sym at)
+]
+
+-- the entries of the further ways from that place on to before the other one
+pub record AreGathered (s : Sources) (further : List FurtherWay) (begin end : ℕ) (es : List Entry) : Type 0 where
+  pub members : (e : Entry) → Contains es e ↔ ((k : ℕ) × (more : FurtherWay) × (begin ≤ k) × (k < end) × (slice_get further k ≡ Some more) ×
+      (e ≡ further_entry s more))
 
 module _ (s : Sources) (further : List FurtherWay) where
-  pub gathered_next : (place : ℕ) (d : FurtherWay) (es more : List Entry) → place < length further →
+  pub gathered_none : (place : ℕ) (es : List Entry) → es ≡ [] → AreGathered s further place place es
+  gathered_none place es is = record {
+    members = λ e. (
+      λ c. absurd (none_in_nil e (subst (λ (v : List Entry). Contains v e) is c)),
+      λ h. absurd (let low = h.2 in let high = h.3 in omega (arith, low, high)),
+    );
+  }
+
+  -- a further place, on either side
+  pub gathered_next : (begin end first last place : ℕ) (d : FurtherWay) (es more : List Entry) → place < length further →
+      ((k : ℕ) → first ≤ k → k < last → ((begin ≤ k) × (k < end)) ⊎ (k ≡ place)) →
+      ((k : ℕ) → begin ≤ k → k < end → (first ≤ k) × (k < last)) → first ≤ place → place < last →
       more ≡ es ++ further_entry s (get_or further place d) ∷ [] →
-      AreGathered s further (place + 1) es → AreGathered s further place more
-  gathered_next place d es more lt is so_far = record {
+      AreGathered s further begin end es → AreGathered s further first last more
+  gathered_next begin end first last place d es more lt cases kept low high is so_far = record {
     members = λ e. (
       λ c. elim (Contains-push_cases es new e (subst (λ (v : List Entry). Contains v e) is c)) [
         | inl old ↦
             let h = (so_far.members e).0 old in
-            (h.0, subst (λ (v : List FurtherWay). Contains v h.0) (sym split) (contains_later here rest h.0 h.1), h.2)
-        | inr same ↦ (here, subst (λ (v : List FurtherWay). Contains v here) (sym split) (contains_from_at (here ∷ rest) 0 here refl), sym same)
+            let within = kept h.0 h.2 h.3 in
+            (h.0, h.1, within.0, within.1, h.4, h.5)
+        | inr same ↦ (place, here, low, high, slice_get-get_or further place d lt, sym same)
       ],
-      λ h. subst (λ (v : List Entry). Contains v e) (sym is) (elim (in_rest here rest h.0
-          (subst (λ (v : List FurtherWay). Contains v h.0) split h.1)) [
-            | inl same ↦
-                let f : e ≡ new = h.2 ∙ ap (further_entry s) (sym same) in
-                subst (Contains (es ++ new ∷ [])) (sym f) (Contains-push es new)
-            | inr old ↦ Contains-append_left es (new ∷ []) e ((so_far.members e).1 (h.0, old, h.2))
-          ]),
+      λ h. subst (λ (v : List Entry). Contains v e) (sym is) (added e h.0 h.1 h.2 h.3 h.4 h.5),
     );
   }
     where
       here : FurtherWay
       here = get_or further place d
 
-      rest : List FurtherWay
-      rest = drop (place + 1) further
-
       new : Entry
       new = further_entry s here
 
-      split : drop place further ≡ here ∷ rest
-      split =
-          let next : suc place ≡ place + 1 = omega arith in
-          drop-cons further place d lt ∙ ap (λ (n : ℕ). here ∷ drop n further) next
+      added : (e : Entry) (k : ℕ) (way : FurtherWay) → first ≤ k → k < last → slice_get further k ≡ Some way → e ≡ further_entry s way →
+          Contains (es ++ new ∷ []) e
+      added e k way from to at e_is = elim (cases k from to) [
+        | inl old ↦ Contains-append_left es (new ∷ []) e ((so_far.members e).1 (k, way, old.0, old.1, at, e_is))
+        | inr same ↦
+            let one : here ≡ way = get_or_from_slice_get further place way d (ap (slice_get further) (sym same) ∙ at) in
+            subst (Contains (es ++ new ∷ [])) (ap (further_entry s) one ∙ sym e_is) (Contains-push es new)
+      ]
+
+  -- the place before the first one, or that behind the last one
+  pub gathered_beside : (begin turn place first : ℕ) (d : FurtherWay) (es more : List Entry) → (place + 1 ≡ begin) ⊎ (place ≡ begin + turn) →
+      place < length further → begin + turn ≤ length further → (begin ≤ place → first ≡ begin) → (place < begin → first ≡ place) →
+      more ≡ es ++ further_entry s (get_or further place d) ∷ [] → AreGathered s further begin (begin + turn) es →
+      (first + (turn + 1) ≤ length further) × AreGathered s further first (first + (turn + 1)) more
+  gathered_beside begin turn place first d es more (inl before) there within same other is so_far =
+      let here : first ≡ place = other (omega (arith, before)) in (
+        omega (arith, here, before, within),
+        gathered_next begin (begin + turn) first (first + (turn + 1)) place d es more there
+            (λ k from to. elim (below_or_at_first k begin place before (omega (arith, from, here))) [
+              | inl above ↦ inl (above, omega (arith, to, here, before))
+              | inr at ↦ inr at
+            ])
+            (λ k from to. (omega (arith, from, here, before), omega (arith, to, here, before)))
+            (omega (arith, here)) (omega (arith, here)) is so_far,
+      )
+  gathered_beside begin turn place first d es more (inr behind) there within same other is so_far =
+      let here : first ≡ begin = same (omega (arith, behind)) in (
+        omega (arith, here, behind, there),
+        gathered_next begin (begin + turn) first (first + (turn + 1)) place d es more there
+            (λ k from to. elim (below_or_at k (begin + turn) (omega (arith, to, here))) [
+              | inl below ↦ inl (omega (arith, from, here), below)
+              | inr at ↦ inr (omega (arith, at, behind))
+            ])
+            (λ k from to. (omega (arith, from, here), omega (arith, to, here)))
+            (omega (arith, here, behind)) (omega (arith, here, behind)) is so_far,
+      )
+
+  pub gathered_all : (begin end : ℕ) (es : List Entry) → begin ≡ 0 → length further ≤ end → AreGathered s further begin end es →
+      (e : Entry) → Contains es e ↔ ((more : FurtherWay) × Contains further more × (e ≡ further_entry s more))
+  gathered_all begin end es none all gathered e = (
+    λ c.
+        let h = (gathered.members e).0 c in
+        (h.1, contains_from_at further h.0 h.1 h.4, h.5),
+    λ h.
+        let at = at_from_contains further h.0 h.1 in
+        let lt = slice_get_within further at.0 h.0 at.1 in
+        (gathered.members e).1 (at.0, h.0, omega (arith, none), omega (arith, all, lt), at.1, h.2),
+  )
 
 -- the entry of the first way behind those of the further ones
 module _ (s : Sources) (k position : ℕ) (first : Way) (at : slice_get s.links.now.ways.firsts k ≡ Some first) (further : List FurtherWay)

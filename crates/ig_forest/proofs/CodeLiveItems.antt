@@ -3,6 +3,7 @@ use Rattle.std.proofs.Common.{◌≡◌, ◌↔◌, ℕ, ◌<◌, List, Some, tr
 use Rattle.std.specs.Prelude.{slice_index}
 use Rattle.std.proofs.lemmas.List.{length-map}
 use Rattle.std.proofs.lemmas.Option.{slice_get_within, get_or_from_slice_get}
+use Rattle.ig_text.specs.Input.{Input}
 use Rattle.ig_text.proofs.Lists.{at_from_contains, get_within, contains_from_at, unmapped_at, mapped_in, mapped_at, map_twice}
 use Rattle.ig_text.proofs.Pairwise.{same_length, each_mapped, each_right}
 use Rattle.ig_text.proofs.Rising.{one_place}
@@ -85,12 +86,12 @@ pub are_live_items : (l : LiveItems) (r : Recording) (tables : Tables) (marks : 
     AreMarks l.links.now.core l.links.now.text (items_of l.links.now.tables) marks → l.marks.now ≡ marks →
     AreLiveInOrder l.marks.now (number_cmp l.found.items.now l.found.keys.now l.found.places.now) order → l.order.now ≡ order → AreLiveItems l
 are_live_items l r tables marks order same is core_is text_is tables_are found marked marks_are ordered order_is = record {
-  reachable = subst₂ (λ (c : List Nonterminal) (t : List ℕ). AreReachable c t s.tables) cores texts is.reachable;
+  reachable = subst₂ (λ (c : List Nonterminal) (t : Input). AreReachable c t s.tables) cores texts is.reachable;
   once = is.once;
-  ways = subst₂ (λ (c : List Nonterminal) (t : List ℕ). AreWays c t (items_of s.tables) s.ways) cores texts is.are_ways;
+  ways = subst₂ (λ (c : List Nonterminal) (t : Input). AreWays c t (items_of s.tables) s.ways) cores texts is.are_ways;
   found = subst (λ (z : Tables). AreFound z (lists_in l) l.found) (tables_are ∙ sym same.tables) found;
   marks =
-      subst₂ (λ (c : List Nonterminal) (t : List ℕ). AreMarks c t (items_of s.tables) l.marks.now) cores texts
+      subst₂ (λ (c : List Nonterminal) (t : Input). AreMarks c t (items_of s.tables) l.marks.now) cores texts
       (subst (AreMarks s.core s.text (items_of s.tables)) (sym marks_are) marked);
   order = subst (AreLiveInOrder l.marks.now (number_cmp l.found.items.now l.found.keys.now l.found.places.now)) (sym order_is) ordered;
 }
@@ -108,7 +109,7 @@ module _ (l : LiveItems) (are : AreLiveItems l) where
   abbrev core : List Nonterminal
   core = l.core.now
 
-  abbrev text : List ℕ
+  abbrev text : Input
   text = l.text.now
 
   abbrev items : List Item

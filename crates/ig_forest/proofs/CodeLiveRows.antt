@@ -4,6 +4,7 @@ use Rattle.std.specs.Prelude.{slice_index, slice_index_or}
 use Rattle.std.proofs.lemmas.List.{length-map}
 use Rattle.std.proofs.lemmas.List.Elements.{Contains-get_or}
 use Rattle.std.proofs.lemmas.Option.{get_or_from_slice_get, slice_get-get_or, slice_get_within}
+use Rattle.ig_text.specs.Input.{Input}
 use Rattle.ig_text.proofs.Lists.{at_from_contains, get_within, unmapped_at, mapped_in, unmapped_in, mapped_at}
 use Rattle.ig_expr.specs.declared.value.Value.{Value}
 use Rattle.ig_item.specs.Items.{Item, IsComplete, root_instance}
@@ -103,7 +104,7 @@ module _ (tables : Tables) (keys : List InstanceKey) (lists : List (List Value))
       once j k (item_of tables (item_at tables.items k))
       (meant_at j within_j ∙ ap Some (sym (row_item j within_j) ∙ ap (item_by lists) same ∙ row_item k within_k)) (meant_at k within_k)
 
-  module _ (core : List Nonterminal) (text : List ℕ) (marks : List Mark) (long : length marks ≡ length (items_of tables))
+  module _ (core : List Nonterminal) (text : Input) (marks : List Mark) (long : length marks ≡ length (items_of tables))
       (live : (k : ℕ) (x : Item) → slice_get (items_of tables) k ≡ Some x → (slice_get (map is_live marks) k ≡ Some true) ↔ IsLive core text x) where
     marked_item : (k : ℕ) → k < length marks → (x : Item) × (slice_get (items_of tables) k ≡ Some x)
     marked_item k lt = get_within (items_of tables) k (let l = long in omega (arith, lt, l))

@@ -6,6 +6,7 @@ use Rattle.std.specs.Ordering.{nat_cmp, ordering_then, ordering_reverse}
 use Rattle.std.proofs.lemmas.Cmp.{tied_itself}
 use Rattle.std.proofs.lemmas.Option.{slice_get-get_or}
 use Rattle.std.proofs.lemmas.Bool.{cases_order}
+use Rattle.ig_text.specs.Input.{Input}
 use Rattle.ig_text.proofs.Lists.{mapped_in, unmapped_in}
 use Rattle.ig_text.proofs.Rising.{rises}
 use Rattle.ig_text.proofs.Sorted.{less_number, greater_number, equal_number}
@@ -59,7 +60,7 @@ module _ (lists : List (List Value)) (sorted : IsStrictlySortedBy values_cmp lis
       (ordering_then (nat_cmp x.nonterminal y.nonterminal)
       (ordering_then p (ordering_then (nat_cmp x.alternative y.alternative) (ordering_then (nat_cmp x.dot y.dot) q)))))) v e
 
-  pub are_items : (core : List Nonterminal) (text : List ℕ) (rows : List ItemRow) → AreRows (IsLive core text) lists rows → AreItems core text (map (item_by lists) rows)
+  pub are_items : (core : List Nonterminal) (text : Input) (rows : List ItemRow) → AreRows (IsLive core text) lists rows → AreItems core text (map (item_by lists) rows)
   are_items core text rows are = record {
     members = λ x. (
       λ c. let (row, among, is) = unmapped_in (item_by lists) rows x c in subst (IsLive core text) is (are.sound row among),

@@ -2,6 +2,7 @@
 use Rattle.std.proofs.Common.{◌≡◌, ◌↔◌, ℕ, ◌<◌, List, Some, length, slice_get, Contains, refl, sym, ap, ◌∙◌, subst, arith}
 use Rattle.std.specs.Prelude.{slice_index}
 use Rattle.std.proofs.lemmas.Option.{same_Some, slice_get_within, get_or_from_slice_get}
+use Rattle.ig_text.specs.Input.{Input}
 use Rattle.ig_text.specs.declared.text.Span.{Span}
 use Rattle.ig_text.proofs.Lists.{at_from_contains, get_within}
 use Rattle.ig_item.specs.WellKinded.{NoneTwice}
@@ -28,7 +29,7 @@ use Rattle.ig_forest.proofs.Steps.{given_dot}
 use Rattle.ig_forest.proofs.CodeGives.{gives_one}
 
 -- the tables are those of the items of a run, of which these are in the forest, over these nodes
-pub record AreOfRun (core : List Nonterminal) (text : List ℕ) (s : Sources) (items placed : List Item) (keys : List NodeKey) : Type 0 where
+pub record AreOfRun (core : List Nonterminal) (text : Input) (s : Sources) (items placed : List Item) (keys : List NodeKey) : Type 0 where
   pub ways : AreWays core text items s.links.now.ways
   pub once : NoneTwice items
   pub long : length s.numbers.now ≡ length items
@@ -44,7 +45,7 @@ pub record AreOfRun (core : List Nonterminal) (text : List ℕ) (s : Sources) (i
       slice_get keys (slice_index s.nodes.now p) ≡ Some key
   pub keys_once : NoneTwice keys
 
-module _ (core : List Nonterminal) (text : List ℕ) (s : Sources) (items placed : List Item) (keys : List NodeKey)
+module _ (core : List Nonterminal) (text : Input) (s : Sources) (items placed : List Item) (keys : List NodeKey)
     (are : AreOfRun core text s items placed keys) where
   abbrev Known : Item → Type 0
   Known = Reachable core text

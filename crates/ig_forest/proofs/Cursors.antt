@@ -1,6 +1,7 @@
 -- In the reduced forest a tree has one cursor.
 use Rattle.std.proofs.Common.{◌≡◌, ℕ, suc, ◌++◌, List, Some, length, slice_get, refl, sym, ap, ap₂, ◌∙◌, subst, subst₂, arith}
 use Rattle.std.proofs.lemmas.Option.{same_Some}
+use Rattle.ig_text.specs.Input.{Input}
 use Rattle.ig_text.specs.declared.tag.Tag.{Tag}
 use Rattle.ig_text.specs.declared.text.Span.{Span}
 use Rattle.ig_text.specs.Tree.{Tree, Trees, Leaf, Node, one, join}
@@ -53,13 +54,13 @@ pub record NodeParts (a b : Tag) (ts us : Trees) : Type 0 where
 pub node_parts : (a b : Tag) (i j h k : ℕ) (ts us : Trees) → Node a i j ts ≡ Node b h k us → NodeParts a b ts us
 node_parts a b i j h k ts us e = record { tag = cc; children = cc }
 
-module _ (core : List Nonterminal) (text : List ℕ) where
+module _ (core : List Nonterminal) (text : Input) where
   first_is : {x : Item} {ts : Trees} → Comes core text x ts → x.dot ≡ 0 → x ≡ first x.instance x.alternative
   first_is (reached.begin instance a x e) dot = e ∙ sym (ap (λ (y : Item). first y.instance y.alternative) e)
   first_is (reached.further it bound j ts us vs x comes passes is joins) dot =
       let further : x.dot ≡ suc it.dot = ap (λ (y : Item). y.dot) is in absurd (omega arith)
 
-module _ (given : Given) (core : List Nonterminal) (text : List ℕ) (f : Forest) (r : IsReduced core text f)
+module _ (given : Given) (core : List Nonterminal) (text : Input) (f : Forest) (r : IsReduced core text f)
     (w : IsWellKinded core) where
   -- an item's place, with one entry of it, and what the cursor has behind that choice
   pub record Entered (k : ℕ) (entry : Entry) (rest cs : List ℕ) : Type 0 where

@@ -1,5 +1,6 @@
 -- Live items are reachable, and the least collection of those that are used.
-use Rattle.std.proofs.Common.{ℕ, List}
+use Rattle.std.proofs.Common.{List}
+use Rattle.ig_text.specs.Input.{Input}
 use Rattle.ig_item.specs.Items.{Item, Reachable}
 use Rattle.ig_item.specs.declared.core_grammar.Nonterminal.{Nonterminal}
 use Rattle.ig_item.specs.Gives as rules
@@ -8,7 +9,7 @@ use Rattle.ig_item.specs.Gives.{Taken, NodeKey, Completes}
 use Rattle.ig_forest_live.specs.Live.{Gives, IsLive}
 use Rattle.ig_forest.specs.Laws.{LiveIsReachable, LiveIsLeast}
 
-module _ (core : List Nonterminal) (text : List ℕ) where
+module _ (core : List Nonterminal) (text : Input) where
   pub previous_reachable : {prev x : Item} {taken : Taken} → Gives core text prev taken x → Reachable core text prev
   previous_reachable (rules.test prev names e x reachable before holds is) = reachable
   previous_reachable (rules.bind prev names name e v x reachable before has is) = reachable

@@ -9,6 +9,7 @@ use Rattle.std.specs.Cmp.Lexicographic.{slice_cmp}
 use Rattle.std.specs.Ordering.{nat_cmp, ordering_then}
 use Rattle.std.specs.declared.cmp.Ordering.{Ordering}
 use Rattle.std.specs.declared.cmp.Ordering.TheVariants as ordering
+use Rattle.ig_text.specs.Input.{Input}
 use Rattle.ig_text.specs.Tree as plain
 use Rattle.ig_text.specs.TagNumber.{number_of}
 use Rattle.ig_text.proofs.Lists.{contains_from_at}
@@ -72,7 +73,7 @@ count_last (more s ts) t = ap suc (count_last ts t)
 self_alike : (x : Item) → Alike x x
 self_alike x = record { instance = refl; alternative = refl; dot = refl }
 
-module _ (values : GivenValues) (core : List Nonterminal) (text : List ℕ) (f : Forest) (r : IsReduced core text f)
+module _ (values : GivenValues) (core : List Nonterminal) (text : Input) (f : Forest) (r : IsReduced core text f)
     (w : IsWellKinded core) (rise : TagsRise core) where
   -- items of the forest are reachable
   reachable_at : (k : ℕ) (x : Item) → slice_get r.items k ≡ Some x → Reachable core text x
@@ -345,7 +346,7 @@ module _ (values : GivenValues) (core : List Nonterminal) (text : List ℕ) (f :
 pub ordered_trees : GivenValues → CursorsAreOrderedAsTrees
 ordered_trees values core text f d e cs ds t u a b w rise r one other of_a of_b =
     let compared =
-    node_cmps values core text f r w rise one e ds u other (root_key text) r.root (length text) (length text) a b of_a.within
+    node_cmps values core text f r w rise one e ds u other (root_key text) r.root (length text.characters) (length text.characters) a b of_a.within
     of_b.within of_a.same of_b.same [] [] in
     let same : slice_cmp nat_cmp cs ds ≡ tree_cmp a b =
     sym (ap₂ (slice_cmp nat_cmp) (append-nil cs) (append-nil ds)) ∙ compared ∙ then_nothing (tree_cmp a b) in

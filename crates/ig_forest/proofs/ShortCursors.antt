@@ -10,6 +10,7 @@ use Rattle.std.proofs.lemmas.List.Elements.{All-nil, All-cons, All-append}
 use Rattle.std.proofs.lemmas.Map.Made.{IsDistinct-from_AllPairs, is_member-Decides}
 use Rattle.std.proofs.lemmas.Map.Steps.{length-le_from_distinct_below}
 use Rattle.std.proofs.lemmas.Option.{get_or_from_slice_get, same_Some, slice_get_within}
+use Rattle.ig_text.specs.Input.{Input}
 use Rattle.ig_text.specs.Tree.{Tree, Trees}
 use Rattle.ig_text.proofs.Lists.{get_within, contains_from_at, unmapped_in, mapped_at}
 use Rattle.ig_text.proofs.Pairwise.{key_at, same_length}
@@ -63,7 +64,7 @@ noted_below (suc zero) i n within most = All-nil (λ m. m < n)
 noted_below (suc (suc many)) i n within most =
     All-cons (λ m. m < n) i [] (omega (arith, within, most)) (All-nil (λ m. m < n))
 
-module _ (alternatives_one : AlternativesAreOne) (core : List Nonterminal) (text : List ℕ) (f : Forest) (is : IsReduced core text f) where
+module _ (alternatives_one : AlternativesAreOne) (core : List Nonterminal) (text : Input) (f : Forest) (is : IsReduced core text f) where
   size : length is.items ≡ length f.items
   size = same_length is.item_nodes
 

@@ -1,5 +1,6 @@
 -- What the rules and the entries of items say, one by one.
 use Rattle.std.proofs.Common.{◌≡◌, ℕ, suc, ◌≤◌, List, [], ◌∷◌, Some, slice_get, refl, sym, ap, subst, arith}
+use Rattle.ig_text.specs.Input.{Input}
 use Rattle.ig_text.proofs.Trees.{join-none}
 use Rattle.ig_text.specs.Tree.{Tree, Trees, Leaf, none, more, one, join, height, greatest_height}
 use Rattle.ig_text.specs.declared.text.Span.{Span}
@@ -29,7 +30,7 @@ pub parted_height : (ts us : Trees) (d : ℕ) → greatest_height (join ts us) �
 parted_height none us d low = (omega arith, low)
 parted_height (more s ts) us d low = let others = parted_height ts us d (omega arith) in (omega (arith, others.0), others.1)
 
-module _ (core : List Nonterminal) (text : List ℕ) where
+module _ (core : List Nonterminal) (text : Input) where
   -- the item behind has its dot one further
   pub given_dot : {prev x : Item} {taken : Taken} → Gives core text prev taken x → x.dot ≡ suc prev.dot
   given_dot (rules.test prev names e x reachable before holds is) = ap (λ (y : Item). y.dot) is

@@ -1,5 +1,6 @@
 -- What the step before which an item stands leads to is determined.
 use Rattle.std.proofs.Common.{◌≡◌, ℕ, List, [], ◌∷◌, map, Option, Some, None, slice_get, refl, sym, ap, ◌∙◌, subst, subst₂, arith}
+use Rattle.ig_text.specs.Input.{Input}
 use Rattle.ig_text.proofs.Equal.{same_listed}
 use Rattle.ig_expr.specs.Evaluation.{value_of}
 use Rattle.ig_expr.specs.declared.value.Value.{Value}
@@ -44,13 +45,13 @@ listed None = []
 listed (Some v) = v ∷ []
 
 -- what a step binds that leads to j
-abbrev bound : List ℕ → List (List ℕ) → Item → ℕ → Step → List Value
+abbrev bound : Input → List (List ℕ) → Item → ℕ → Step → List Value
 bound text names prev j (Test e) = []
 bound text names prev j (Bind name e) = listed (value_of text names prev.env prev.position e)
 bound text names prev j (Term what label excluded) = span_of label prev.position j
 bound text names prev j (Call callee arguments label excluded) = span_of label prev.position j
 
-module _ (core : List Nonterminal) (text : List ℕ) where
+module _ (core : List Nonterminal) (text : Input) where
   -- the step that a rule takes, and the item to which it leads
   pub record Stepped (prev : Item) (taken : Taken) (x : Item) : Type 0 where
     pub names : List (List ℕ)

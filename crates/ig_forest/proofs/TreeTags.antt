@@ -2,6 +2,7 @@
 use Rattle.std.proofs.Common.{◌≡◌, ℕ, ◌<◌, List, [], ◌∷◌, ◌++◌, Some, inl, inr, length, sym, ap, ◌∙◌, subst}
 use Rattle.std.proofs.lemmas.List.Elements.{Contains-append_cases}
 use Rattle.std.proofs.lemmas.Option.{same_Some, slice_get_within}
+use Rattle.ig_text.specs.Input.{Input}
 use Rattle.ig_text.specs.Tree.{Tree, Trees, Leaf}
 use Rattle.ig_text.specs.declared.tag.Tag.TheVariants.{Rule}
 use Rattle.ig_text.proofs.Lists.{none_in_nil, contains_one}
@@ -34,7 +35,7 @@ module _ (core : List Nonterminal) where
   leaf_named : (i j : ℕ) → TagsAreNamed core (flat (Leaf i j))
   leaf_named i j = one_named _ (λ n k e. cc)
 
-  module _ (text : List ℕ) (kinded : IsWellKinded core) where
+  module _ (text : Input) (kinded : IsWellKinded core) where
     mutual
       tree_named : {n : ℕ} {vs : List Value} {i j : ℕ} {t : Tree} → HasTree core text n vs i j t → TagsAreNamed core (flat t)
       tree_named (core_trees.node n a vs nonterminal alternative i j ts t has leads is) =

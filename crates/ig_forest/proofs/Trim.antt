@@ -5,6 +5,7 @@ use Rattle.std.specs.declared.cmp.Ordering.{Ordering}
 use Rattle.std.specs.declared.cmp.Ordering.TheVariants.{Less, Equal}
 use Rattle.std.proofs.lemmas.Cmp.{tied_itself}
 use Rattle.std.proofs.lemmas.Option.{slice_get_within, same_Some}
+use Rattle.ig_text.specs.Input.{Input}
 use Rattle.ig_text.proofs.Lists.{at_from_contains, contains_from_at}
 use Rattle.ig_text.proofs.Matching.{match_goes}
 use Rattle.ig_text.proofs.Pairwise.{key_at, partner, same_length}
@@ -48,7 +49,7 @@ below_past x bound j h =
       | inr e ↦ then_tied _ _ (equal_number x.position j e) rest
     ])
 
-module _ (in_text : ItemsAreInText) (core : List Nonterminal) (text : List ℕ) where
+module _ (in_text : ItemsAreInText) (core : List Nonterminal) (text : Input) where
   below_given : {prev x : Item} {taken : Taken} → Gives core text prev taken x → item_cmp prev x ≡ Less
   below_given (rules.test prev names e x reachable before holds is) =
       subst (λ (y : Item). item_cmp prev y ≡ Less) (sym is) (below_past prev [] prev.position (omega arith))

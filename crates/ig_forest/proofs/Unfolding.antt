@@ -1,5 +1,6 @@
 -- The reduced forest unfolds, to a depth, to the core trees that are no higher.
 use Rattle.std.proofs.Common.{◌≡◌, ℕ, zero, suc, ◌≤◌, ◌++◌, List, [], ◌∷◌, Option, Some, length, slice_get, refl, sym, ap, ap₂, ◌∙◌, subst, subst₂, arith}
+use Rattle.ig_text.specs.Input.{Input}
 use Rattle.ig_text.specs.declared.pattern.Pattern.{Pattern}
 use Rattle.ig_text.specs.declared.tag.Tag.{Tag}
 use Rattle.ig_text.specs.declared.text.Span.{Span}
@@ -39,13 +40,13 @@ use Rattle.ig_forest.proofs.Steps.{joined_height, parted_height, comes_by_nothin
 same_tree : (a b : Tag) (i j h k : ℕ) (ts : Trees) → a ≡ b → i ≡ h → j ≡ k → Node a i j ts ≡ Node b h k ts
 same_tree a b i j h k ts p q r = cc
 
-module _ (core : List Nonterminal) (text : List ℕ) where
+module _ (core : List Nonterminal) (text : Input) where
   none_first : {x : Item} {ts : Trees} → Comes core text x ts → x.dot ≡ 0 → ts ≡ none
   none_first (reached.begin instance a x e) dot = refl
   none_first (reached.further it bound j ts us vs x comes passes is joins) dot =
       let further : x.dot ≡ suc it.dot = ap (λ (y : Item). y.dot) is in absurd (omega arith)
 
-module _ (given : Given) (core : List Nonterminal) (text : List ℕ) (f : Forest) (r : IsReduced core text f) where
+module _ (given : Given) (core : List Nonterminal) (text : Input) (f : Forest) (r : IsReduced core text f) where
   pub live_at : (k : ℕ) (x : Item) → slice_get r.items k ≡ Some x → IsLive core text x
   live_at k x at = (r.are_items.members x).0 (contains_from_at r.items k x at)
 

@@ -1,6 +1,7 @@
 -- A core grammar and a text have one reduced forest at most, in which no key stands twice.
 use Rattle.std.proofs.Common.{◌≡◌, ℕ, List, Some, slice_get, Contains, sym, ap, ◌∙◌, subst, subst₂}
 use Rattle.std.proofs.lemmas.Option.{same_Some}
+use Rattle.ig_text.specs.Input.{Input}
 use Rattle.ig_text.specs.declared.text.Span.{Span}
 use Rattle.ig_text.specs.Pairwise.{Each}
 use Rattle.ig_text.proofs.Lists.{contains_from_at}
@@ -21,7 +22,7 @@ use Rattle.ig_forest.proofs.Liveness.{live_is_reachable}
 same_name : (core : List Nonterminal) (n : ℕ) (a b : List ℕ) → IsNamed core n a → IsNamed core n b → a ≡ b
 same_name core n a b p q = same_Some a b (sym p ∙ q)
 
-module _ (core : List Nonterminal) (text : List ℕ) (items : List Item) (keys : List NodeKey) where
+module _ (core : List Nonterminal) (text : Input) (items : List Item) (keys : List NodeKey) where
   same_item_node : (x : Item) (it other : ItemNode) → IsItemNode core text items keys x it →
       IsItemNode core text items keys x other → it ≡ other
   same_item_node x it other p q =

@@ -1,6 +1,7 @@
 -- No part of the reduced forest is dead.
 use Rattle.std.proofs.Common.{◌≡◌, ◌⊎◌, inl, inr, ℕ, zero, suc, ◌+◌, ◌<◌, ◌++◌, List, Some, length, slice_get, refl, sym, ap, ◌∙◌, subst, arith}
 use Rattle.std.proofs.lemmas.Option.{same_Some, slice_get_within}
+use Rattle.ig_text.specs.Input.{Input}
 use Rattle.ig_text.specs.Tree.{Tree, Trees, Leaf, Node, none, one, join, greatest_height}
 use Rattle.ig_text.proofs.Lists.{at_from_contains, contains_from_at, get_within}
 use Rattle.ig_text.proofs.Pairwise.{key_at}
@@ -198,7 +199,7 @@ trim_has_trees f alive =
           node_found f u.unfolds (TheEntry k 0) u.uses;
     }
 
-module _ (core : List Nonterminal) (text : List ℕ) where
+module _ (core : List Nonterminal) (text : Input) where
   -- a rule gives an item from one that stands before a step
   before_step : {prev x : Item} {taken : Taken} → Gives core text prev taken x →
       (step : Step) × ((names : List (List ℕ)) × StandsBefore core prev names step)
@@ -209,7 +210,7 @@ module _ (core : List Nonterminal) (text : List ℕ) where
   before_step (rules.return prev done label excluded key x reachable reach calls c free is) =
       (Call key.instance.nonterminal calls.arguments label excluded, (calls.names, calls.before))
 
-module _ (given : Given) (core : List Nonterminal) (text : List ℕ) (f : Forest) (r : IsReduced core text f) where
+module _ (given : Given) (core : List Nonterminal) (text : Input) (f : Forest) (r : IsReduced core text f) where
   -- each live item has trees, and so has each node
   record Somehow (x : Item) : Type 0 where
     depth : ℕ

@@ -1,6 +1,7 @@
 -- The reduced forest of a core grammar and a text. Its members and their orders are given, so it is a function of both.
 use Rattle.std.specs.Prelude.{◌≡◌, ◌↔◌, ℕ, List, Contains, Some, slice_get, option_map}
 use Rattle.std.specs.List.Sorted.{IsStrictlySortedBy}
+use Rattle.ig_text.specs.Input.{Input}
 use Rattle.ig_text.specs.declared.text.Span.{Span}
 use Rattle.ig_text.specs.Pairwise.{Each}
 use Rattle.ig_item.specs.Items.{Item}
@@ -19,7 +20,7 @@ abbrev pub IsNamed : List Nonterminal → ℕ → List ℕ → Type 0
 IsNamed core n name = option_map (λ nonterminal. nonterminal.name) (slice_get core n) ≡ Some name
 
 -- the items are the live ones, in order
-pub record AreItems (core : List Nonterminal) (text : List ℕ) (items : List Item) : Type 0 where
+pub record AreItems (core : List Nonterminal) (text : Input) (items : List Item) : Type 0 where
   pub members : (x : Item) → Contains items x ↔ IsLive core text x
   pub order : IsStrictlySortedBy item_cmp items
 
@@ -45,7 +46,7 @@ pub record IsNode (core : List Nonterminal) (items : List Item) (key : NodeKey) 
   pub order : IsStrictlySortedBy choice_cmp node.alternatives
 
 -- an entry of an item: it is a first one, or one of the rules gives it from a previous one
-pub data IsEntry (core : List Nonterminal) (text : List ℕ) (items : List Item) (nodes : List NodeKey) (x : Item) :
+pub data IsEntry (core : List Nonterminal) (text : Input) (items : List Item) (nodes : List NodeKey) (x : Item) :
     Entry → Type 0 where
   begin : (e : Entry) → x.dot ≡ 0 → e ≡ Begin → IsEntry core text items nodes x e
   pass : (k : ℕ) (prev : Item) (e : Entry) → slice_get items k ≡ Some prev → Gives core text prev nothing x →
@@ -56,7 +57,7 @@ pub data IsEntry (core : List Nonterminal) (text : List ℕ) (items : List Item)
       slice_get nodes v ≡ Some key → Gives core text prev (tree key) x → e ≡ Take k (child.Node v) →
       IsEntry core text items nodes x e
 
-pub record IsItemNode (core : List Nonterminal) (text : List ℕ) (items : List Item) (nodes : List NodeKey) (x : Item)
+pub record IsItemNode (core : List Nonterminal) (text : Input) (items : List Item) (nodes : List NodeKey) (x : Item)
     (it : ItemNode) : Type 0 where
   pub name : IsNamed core x.instance.nonterminal it.name
   pub item : item_of it ≡ x
@@ -64,7 +65,7 @@ pub record IsItemNode (core : List Nonterminal) (text : List ℕ) (items : List 
   pub order : IsStrictlySortedBy entry_cmp it.entries
 
 -- there is one where a complete root item over the whole text is reachable; its root node is the root's over the whole text
-pub record IsReduced (core : List Nonterminal) (text : List ℕ) (f : Forest) : Type 0 where
+pub record IsReduced (core : List Nonterminal) (text : Input) (f : Forest) : Type 0 where
   pub items : List Item
   pub keys : List NodeKey
   pub are_items : AreItems core text items

@@ -1,5 +1,6 @@
 //! The item nodes of a forest with their entries, made from the ways of a run.
-ghost use Rattle.std.specs.Prelude.{◌≡◌, ◌↔◌, ◌<◌, ◌≤◌, ℕ, IfOk, IsTrue, OnOk, Contains, length};
+ghost use Rattle.std.specs.Prelude.{◌≡◌, ◌↔◌, ◌⊎◌, ◌<◌, ◌≤◌, ◌+◌, ℕ};
+ghost use Rattle.std.specs.Prelude.{IfOk, IsTrue, OnOk, Contains, length};
 ghost use Rattle.std.specs.Prelude.{slice_index};
 ghost use Rattle.std.specs.List.{AllAdjacentBelow};
 ghost use Rattle.std.specs.declared.cmp.Ordering.TheVariants.{Less};
@@ -88,7 +89,8 @@ impl<'a> Sources<'a> {
         Ok(())
     }
 
-    /// Makes these the entries of further ways. Mostly they were found by falling previous items.
+    /// Makes these the entries of further ways. Mostly these were found by falling previous items
+    /// and then by rising ones, so they are taken from the lowest one on, to both sides.
     fn gather(&self, entries: &mut Vec<Entry>, further: &[FurtherWay]) -> Result<(), AllocError>
         requires { (more : FurtherWay) → Contains further.now more →
             WayFits self.now (way.Node more.prev more.done) }
@@ -96,11 +98,52 @@ impl<'a> Sources<'a> {
             ((more : FurtherWay) × Contains further.now more × (e ≡ further_entry self.now more))) }
     {
         entries.clear();
-        for place in (0..further.len()).rev() {
+        let mut begin = self.lowest(further);
+        for turn in 0..further.len() {
+            let place = self.next_place(further, begin, begin + turn);
             let more = further[place];
             entries.push(self.taken(more.prev, more.done))?;
+            begin = least(begin, place);
         }
         Ok(())
+    }
+
+    /// The place up to which the previous items of further ways fall.
+    #[inline(always)]
+    fn lowest(&self, further: &[FurtherWay]) -> usize
+        requires { (more : FurtherWay) → Contains further.now more →
+            WayFits self.now (way.Node more.prev more.done) }
+        ensures { result ≤ length further.now }
+    {
+        for place in 1..further.len() {
+            if self.number(further[place - 1].prev) < self.number(further[place].prev) {
+                return place - 1;
+            }
+        }
+        further.len()
+    }
+
+    /// The place before `begin`, or `end`: that of the way whose previous item is lower, or where
+    /// there is a way.
+    #[inline(always)]
+    fn next_place(&self, further: &[FurtherWay], begin: usize, end: usize) -> usize
+        requires fits { (more : FurtherWay) → Contains further.now more →
+            WayFits self.now (way.Node more.prev more.done) }
+        requires within { begin ≤ length further.now }
+        requires left { begin ≡ 0 → end < length further.now }
+        ensures beside { (result + 1 ≡ begin) ⊎ (result ≡ end) }
+        ensures there { result < length further.now }
+    {
+        if begin == 0 {
+            return end;
+        }
+        if end >= further.len() {
+            return begin - 1;
+        }
+        if self.number(further[begin - 1].prev) < self.number(further[end].prev) {
+            return begin - 1;
+        }
+        end
     }
 
     /// The entry of a way to an item at that position.
@@ -162,6 +205,15 @@ impl<'a> Sources<'a> {
     {
         self.numbers[item as usize]
     }
+}
+
+/// The lower of the two.
+#[inline(always)]
+fn least(a: usize, b: usize) -> usize
+    ensures first { a ≤ b → result ≡ a }
+    ensures second { b < a → result ≡ b }
+{
+    if b < a { b } else { a }
 }
 
 /// Puts entries into the order of their previous items, each once. Mostly they are in it.

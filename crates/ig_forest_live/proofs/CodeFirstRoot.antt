@@ -5,6 +5,7 @@ use Rattle.std.proofs.lemmas.Bool.Decides.{nat_tests}
 use Rattle.std.proofs.lemmas.List.{length-map, nil_from_length}
 use Rattle.std.proofs.lemmas.List.Elements.{Contains-get_or}
 use Rattle.std.proofs.lemmas.Option.{get_or_from_slice_get, same_Some, slice_get-get_or, slice_get_within}
+use Rattle.ig_text.specs.Input.{Input}
 use Rattle.ig_text.proofs.Lists.{at_from_contains, contains_from_at, mapped_at}
 use Rattle.ig_text.proofs.Orders.{below_or_at, le_or_lt}
 use Rattle.ig_item.specs.Gives.{Completes, NodeKey}
@@ -115,9 +116,9 @@ instance_read r tables items k d tables_are items_are are lt =
     are.instances_there (get_or items k d) (subst (λ (z : List stored.Item). Contains z (get_or items k d)) items_are (Contains-get_or items k d lt))
 
 -- the test of the code at an item
-module _ (r : Recording) (is : IsRecorded r) (tables : Tables) (items : List stored.Item) (core : List Nonterminal) (text : List ℕ) (end : ℕ)
+module _ (r : Recording) (is : IsRecorded r) (tables : Tables) (items : List stored.Item) (core : List Nonterminal) (text : Input) (end : ℕ)
     (tables_are : tables ≡ r.tables) (items_are : items ≡ tables.items) (core_is : core ≡ r.core) (text_is : text ≡ r.text)
-    (end_is : end ≡ length text)
+    (end_is : end ≡ length text.characters)
     (k : ℕ) (d : stored.Item) (lt : k < length items) (b : Bool) (told : IsTrue b ↔
     Completes core (item_of tables (get_or items k d)) (key_to end)) where
   read : slice_get r.tables.items k ≡ Some (get_or items k d)
@@ -125,7 +126,7 @@ module _ (r : Recording) (is : IsRecorded r) (tables : Tables) (items : List sto
 
   moved : Completes core (item_of tables (get_or items k d)) (key_to end) ≡ Completes r.core (item_of r.tables (get_or items k d)) (root_key r.text)
   moved =
-      let ends : end ≡ length r.text = end_is ∙ ap length text_is in
+      let ends : end ≡ length r.text.characters = end_is ∙ ap (λ (z : Input). length z.characters) text_is in
       λ i. Completes (core_is i) (item_of (tables_are i) (get_or items k d)) (key_to (ends i))
 
   pub first_here : b ≡ true → ((j : ℕ) → j < k → IsRootEnd r is j → ⊥) → IsFirstRoot r k

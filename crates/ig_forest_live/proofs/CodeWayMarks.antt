@@ -3,6 +3,7 @@ use Rattle.std.proofs.Common.{◌≡◌, ◌↔◌, inl, inr, ℕ, ◌<◌, List
 use Rattle.std.proofs.lemmas.Bool.{cases_eq}
 use Rattle.std.proofs.lemmas.List.Elements.{Contains-get_or}
 use Rattle.std.proofs.lemmas.Option.{same_Some, slice_get_within}
+use Rattle.ig_text.specs.Input.{Input}
 use Rattle.ig_text.proofs.Lists.{at_from_contains, get_within}
 use Rattle.ig_item.specs.Gives as rules
 use Rattle.ig_item.specs.Gives.{NodeKey, Taken, tree, Completes}
@@ -30,7 +31,7 @@ use Rattle.ig_forest_live.specs.declared.marks.Walk.{Walk}
 use Rattle.ig_forest_live.proofs.CodeWalk.{IsNoFirst, mark_of, whole_with, Reached, at_root, step, AreReached}
 
 -- the previous item of a rule stands before a step
-module _ (core : List Nonterminal) (text : List ℕ) where
+module _ (core : List Nonterminal) (text : Input) where
   any_step : {prev x : Item} {taken : Taken} → Gives core text prev taken x → (names : List (List ℕ)) × (step : Step) × StandsBefore core prev names step
   any_step (rules.test prev ns f x r before holds is) = (ns, Test f, before)
   any_step (rules.bind prev ns name f v x r before has is) = (ns, Bind name f, before)

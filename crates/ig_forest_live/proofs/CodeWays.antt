@@ -5,6 +5,7 @@ use Rattle.std.proofs.lemmas.Bool.{eqb-true}
 use Rattle.std.proofs.lemmas.List.{length-map}
 use Rattle.std.proofs.lemmas.List.Elements.{filter_passes, All-contains}
 use Rattle.std.proofs.lemmas.Option.{slice_get_within}
+use Rattle.ig_text.specs.Input.{Input}
 use Rattle.ig_item.specs.Items.{Item}
 use Rattle.ig_item.specs.Recorded.{Recording, IsRecorded}
 use Rattle.ig_item.specs.Tables.{item_of, items_of}
@@ -56,7 +57,7 @@ module _ (lists others : WayLists) (same : AreSameWays lists others) where
   way_forth (again more among item is) = again more ((same.further more).1 among) item is
 
   -- they are the ways of the same items
-  pub same_ways : (core : List Nonterminal) (text : List ℕ) (items : List Item) → AreWays core text items lists → AreWays core text items others
+  pub same_ways : (core : List Nonterminal) (text : Input) (items : List Item) → AreWays core text items lists → AreWays core text items others
   same_ways core text items are = record {
     ways = record {
       number = ap length same.firsts ∙ are.ways.number;

@@ -1,8 +1,8 @@
 //! Forests: what they consist of, which trees they have, and how they are kept.
 //!
 //! A forest has nodes with alternatives and item nodes with entries, both numbered from 0.
-//! `specs/Forest.antt` says what it is, `specs/Unfold.antt` which trees it has to a depth, each with
-//! its cursor, and `specs/Orders.antt` in which orders a reduced one has its parts.
+//! `specs/Forest.antt` says what it is, `specs/Unfold.antt` which trees it has to a depth, each
+//! with its cursor, and `specs/Orders.antt` in which orders a reduced one has its parts.
 //!
 //! [`ForestTables`] keeps a forest in any order, dead parts allowed: nodes as rows of numbers with
 //! their alternatives side by side ([`NodeRows`]), item nodes as rows with their entries side by

@@ -34,8 +34,8 @@ impl Model for ForestTables {
 }
 
 impl ForestTables {
-    /// The forest of these nodes and item nodes with that root. Their nonterminals are places in the
-    /// names, and their values and environments are places in the lists. Takes no memory.
+    /// The forest of these nodes and item nodes with that root. Their nonterminals are places in
+    /// the names, and their values and environments are places in the lists. Takes no memory.
     pub fn of(
         root: u32,
         names: Words,

@@ -8,6 +8,7 @@ use Rattle.ig_grammar.specs.Symbol.{Symbol, Call, Label, Guard, Let, Star, Plus,
 use Rattle.ig_grammar.specs.Visible.{Visible, names, kind_at, parameters, Occurrence, inside_sequence}
 use Rattle.ig_grammar.specs.Name.{is_name}
 use Rattle.ig_grammar.specs.Names.{names as declared_names}
+use Rattle.ig_grammar.specs.Tabs.{says_bad_width}
 use Rattle.ig_grammar.specs.declared.symbol.Alt.{Alt}
 use Rattle.ig_grammar.specs.declared.declaration.Assoc.TheVariants.{Free}
 use Rattle.ig_grammar.specs.declared.declaration.DeclKind.{DeclKind}
@@ -37,6 +38,7 @@ pub data Condition : Type 0 where
   MarkInLexical : Condition
   SyntaxInLexical : Condition
   TooMany : Many → Condition
+  BadTabs : Condition
 
 -- of the conditions that hold at one place the one of the least number is told
 abbrev pub number : Condition → ℕ
@@ -53,6 +55,7 @@ number AlignNotList = 10
 number MarkInLexical = 11
 number SyntaxInLexical = 12
 number (TooMany many) = 13
+number BadTabs = 14
 
 -- and of its cases that hold there the first
 abbrev pub case_number : Condition → ℕ
@@ -212,3 +215,5 @@ pub data StartMeets (g : Grammar) : Condition → Type 0 where
   -- 8: the start symbol's declaration has parameters
   start_has_parameters : (name : List ℕ) (decl : Decl) → g.start ≡ Some name → declaration_of g.decls name ≡ Some decl →
       decl.params ≢ [] → StartMeets g StartHasParameters
+  -- 14: the grammar says a width that tabs can't have
+  bad_tabs : says_bad_width g.tabs ≡ true → StartMeets g BadTabs

@@ -24,4 +24,5 @@ pub mod CodingSizes
 pub mod CodingMembers
 pub mod CodingFalls
 pub mod CodingChecked
+pub mod Tabs
 pub mod Tables

@@ -1,7 +1,9 @@
 ghost use Rattle.std.specs.Prelude.{◌≡◌, ◌<◌, MatchOption, length, slice_get, slice_index_or};
+ghost use Rattle.ig_text.specs.Input.{IsTabWidth};
 ghost use Rattle.ig_grammar.specs.declared.place.Shape.{Shape};
 ghost use Rattle.ig_grammar.specs.declared.place.Shape.TheVariants.{Rule};
 ghost use Rattle.ig_grammar.specs.Numbering.{HasShape};
+ghost use Rattle.ig_grammar.specs.Tabs.{tab_width};
 ghost use Rattle.ig_grammar.specs.WellScoped.{IsWellScoped};
 ghost use Rattle.ig_grammar.specs.Checked.{rules, FitShapes};
 
@@ -73,6 +75,18 @@ impl Checked {
         ensures fit { FitShapes self.now.grammar self.now.shapes }
     {
         &self.grammar
+    }
+
+    /// The width of tabs that the grammar says, from 1 to 16; 1 where it says none. Takes no
+    /// memory.
+    pub fn tab_width(&self) -> u32
+        ensures width { result ≡ tab_width self.now.grammar.tabs }
+        ensures allowed { IsTabWidth result }
+    {
+        match self.grammar.tabs {
+            Some(tabs) => tabs as u32,
+            None => 1,
+        }
     }
 
     /// The shape of the declaration of this number, counted from 1; `None` exactly where no

@@ -3,6 +3,7 @@ use Rattle.std.proofs.Common.{◌≡◌, ℕ, suc, List, [], ◌∷◌, ◌++◌
 use Rattle.std.specs.List.{flat_map}
 use Rattle.std.proofs.lemmas.List.{append-nil}
 use Rattle.std.proofs.lemmas.Option.{same_Some}
+use Rattle.ig_text.specs.Input.{Input}
 use Rattle.ig_text.specs.Tree as plain
 use Rattle.ig_text.proofs.Trees.{join-none, parted}
 use Rattle.ig_text.proofs.Lists.{take_step}
@@ -27,7 +28,7 @@ use Rattle.ig_item.specs.declared.core_grammar.CoreAlt.{CoreAlt}
 use Rattle.ig_item.specs.declared.items.Instance.{Instance}
 use Rattle.ig_item.proofs.Dots.{same_alternative}
 
-module _ (core : List Nonterminal) (text : List ℕ) where
+module _ (core : List Nonterminal) (text : Input) where
   -- one step alone
   single : {names : List (List ℕ)} {env : List Value} {i j : ℕ} {ts : valued.Trees} {after : List Value} → (step : Step) →
       Leaves core text names env (step ∷ []) i j ts after → LeavesAlone core text names env step i j ts after

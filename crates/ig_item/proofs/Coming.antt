@@ -2,6 +2,7 @@
 use Rattle.std.proofs.Common.{◌≡◌, ℕ, suc, ◌≤◌, List, [], ◌∷◌, ◌++◌, length, drop, refl, sym, ap, ◌∙◌, subst, arith}
 use Rattle.std.proofs.lemmas.List.{append-nil}
 use Rattle.std.proofs.lemmas.Option.{same_Some}
+use Rattle.ig_text.specs.Input.{Input}
 use Rattle.ig_text.specs.Tree.{Tree, Trees, Leaf, Node, none, one, join}
 use Rattle.ig_expr.specs.declared.value.Value.{Value}
 use Rattle.ig_item.specs.Step.{Step, Test, Bind, Term, Call, labels}
@@ -25,7 +26,7 @@ use Rattle.ig_item.proofs.ItemTrees.{item_at, comes_tree}
 use Rattle.ig_text.proofs.Trees.{join_join, join-none}
 use Rattle.ig_text.proofs.Lists.{stands, at_end}
 
-module _ (core : List Nonterminal) (text : List ℕ) where
+module _ (core : List Nonterminal) (text : Input) where
   -- a reachable complete item of the instance at j
   record Completed (instance : Instance) (j : ℕ) : Type 0 where
     a : ℕ
@@ -332,9 +333,9 @@ module _ (core : List Nonterminal) (text : List ℕ) where
   root_tree : RootIsComplete core text → (t : Tree) × CoreTree core text t
   root_tree r =
       let come = has_come r.item r.reachable in
-      let t = Node r.root.complete.alternative.tag 0 (length text) come.1 in (
+      let t = Node r.root.complete.alternative.tag 0 (length text.characters) come.1 in (
         t,
-        completes_tree root_instance (length text) t
+        completes_tree root_instance (length text.characters) t
             (record {
               item = r.item;
               trees = come.1;
@@ -350,7 +351,7 @@ module _ (core : List Nonterminal) (text : List ℕ) where
   root_item root tree =
       let c = tree_reach tree.1 (root_first root) in
       record {
-        item = item_at root_instance c.a c.dot c.env (length text);
+        item = item_at root_instance c.a c.dot c.env (length text.characters);
         reachable = c.reachable;
         root = record { of_root = refl; complete = c.complete };
         to_end = refl;

@@ -3,6 +3,7 @@ use Rattle.std.proofs.Common.{◌≡◌, ℕ, ◌+◌, ◌<◌, List, [], ◌∷
 use Rattle.std.specs.Prelude.{slice_get, option_map}
 use Rattle.std.proofs.lemmas.Option.{same_Some, slice_get_within}
 use Rattle.std.proofs.lemmas.List.{length-map, map-append, append-nil}
+use Rattle.ig_text.specs.Input.{Input}
 use Rattle.ig_text.proofs.Lists.{contains_from_at}
 use Rattle.ig_expr.specs.Expression.{Expression}
 use Rattle.ig_expr.specs.Kinds.{kind_in, kind_of_value}
@@ -33,7 +34,7 @@ label_bound None i j = record { kinds_are = refl; number = refl }
 label_bound (Some name) i j = record { kinds_are = refl; number = refl }
 
 -- arguments have values of their kinds
-arguments_fit : ValuesHaveKinds → (text : List ℕ) (names : List (List ℕ)) (kinds : List Kind) (env : List Value) (here : ℕ) →
+arguments_fit : ValuesHaveKinds → (text : Input) (names : List (List ℕ)) (kinds : List Kind) (env : List Value) (here : ℕ) →
     map kind_of_value env ≡ kinds → (arguments : List Expression) (ks : List Kind) (vs : List Value) →
     map (kind_in names kinds) arguments ≡ map Some ks → map (value_of text names env here) arguments ≡ map Some vs →
     map kind_of_value vs ≡ ks
@@ -128,7 +129,7 @@ module _ (core : List Nonterminal) where
             ap (λ (ns : List (List ℕ)). length (ns ++ names_of step)) f.names_are ∙ ap length (sym behind);
       }
 
-  module _ (values_have_kinds : ValuesHaveKinds) (text : List ℕ) (w : IsWellKinded core) where
+  module _ (values_have_kinds : ValuesHaveKinds) (text : Input) (w : IsWellKinded core) where
     -- the step fits what is visible before it
     step_fits : (it : Item) (names : List (List ℕ)) (step : Step) (f : FitsBefore it names step) →
         StepFits core f.nonterminal f.alternative it.dot step

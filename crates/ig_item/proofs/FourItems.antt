@@ -3,6 +3,7 @@ use Rattle.std.proofs.Common.{◌≡◌, ℕ, zero, suc, ◌≤◌, List, [], �
 use Rattle.std.specs.Prelude.{slice_get, option_and_then, codes}
 use Rattle.std.proofs.lemmas.Option.{same_Some}
 use Rattle.std.proofs.lemmas.List.Elements.{All-nil}
+use Rattle.ig_text.specs.Input.{untabbed}
 use Rattle.ig_text.specs.Pattern.{Matches}
 use Rattle.ig_text.specs.Place.{Spells}
 use Rattle.ig_text.specs.declared.pattern.Pattern.{Pattern}
@@ -145,7 +146,7 @@ call_at it names callee arguments label excluded (called e) s =
     step_of it (plain_item 0 1 1) names (Call callee arguments label excluded) e s in
     cc
 
-pub letter_ends : (j : ℕ) → Spells (codes "a") (codes "a") 0 j → j ≡ 1
+pub letter_ends : (j : ℕ) → Spells (untabbed (codes "a")) (codes "a") 0 j → j ≡ 1
 letter_ends zero s = let h : [] ≡ codes "a" = s.letters in cc
 letter_ends (suc zero) s = refl
 letter_ends (suc (suc k)) s = let h : suc (suc k) ≤ 1 = s.within in absurd (omega arith)
@@ -156,19 +157,19 @@ no_values (v ∷ vs) e = cc
 
 after_terminal : (it : Item) (names : List (List ℕ)) (what : Pattern) (label : Option (List ℕ)) (excluded : List Pattern)
     (j : ℕ) (x : Item) → Contains four_items it → StandsBefore one_letter it names (Term what label excluded) →
-    Matches (codes "a") what it.position j → x ≡ past it (span_of label it.position j) j → Contains four_items x
+    Matches (untabbed (codes "a")) what it.position j → x ≡ past it (span_of label it.position j) j → Contains four_items x
 after_terminal it names what label excluded j x k before matches e =
     let at = terminal_at it names what label excluded (known it k) before in
-    let spells : Spells (codes "a") (codes "a") 0 j =
-    subst (λ (i : ℕ). Matches (codes "a") (Literal (codes "a")) i j) (ap (λ (y : Item). y.position) at.is)
-    (subst (λ (p : Pattern). Matches (codes "a") p it.position j) (sym at.what_is) matches) in
+    let spells : Spells (untabbed (codes "a")) (codes "a") 0 j =
+    subst (λ (i : ℕ). Matches (untabbed (codes "a")) (Literal (codes "a")) i j) (ap (λ (y : Item). y.position) at.is)
+    (subst (λ (p : Pattern). Matches (untabbed (codes "a")) p it.position j) (sym at.what_is) matches) in
     let end = letter_ends j spells in
     in_four 2 x (plain_item 1 1 1) refl
     (e ∙ (λ i. past (at.is i) (span_of (at.label_is i) (at.is i).position (end i)) (end i)))
 
 after_call : (it : Item) (callee : Instance) (label : Option (List ℕ)) (excluded : List Pattern) (nonterminal : Nonterminal)
     (a : ℕ) (alternative : CoreAlt) (x : Item) → Contains four_items it →
-    Calls one_letter (codes "a") it callee label excluded → IsAlternative one_letter callee.nonterminal a nonterminal alternative →
+    Calls one_letter (untabbed (codes "a")) it callee label excluded → IsAlternative one_letter callee.nonterminal a nonterminal alternative →
     x ≡ first callee a → Contains four_items x
 after_call it callee label excluded nonterminal a alternative x k calls chosen e =
     let at = call_at it calls.names callee.nonterminal calls.arguments label excluded (known it k) calls.before in
@@ -183,7 +184,7 @@ after_call it callee label excluded nonterminal a alternative x k calls chosen e
     (e ∙ (λ i. first (record { nonterminal = at.callee_is i; values = values i; start = here i }) (one i)))
 
 after_return : (it done : Item) (label : Option (List ℕ)) (excluded : List Pattern) (x : Item) → Contains four_items it →
-    Known done → Calls one_letter (codes "a") it done.instance label excluded → IsComplete one_letter done →
+    Known done → Calls one_letter (untabbed (codes "a")) it done.instance label excluded → IsComplete one_letter done →
     x ≡ past it (span_of label it.position done.position) done.position → Contains four_items x
 after_return it done label excluded x k (calling e) calls complete is =
     let h : Some 1 ≡ Some done.dot = sym (ap steps_of e) ∙ ends done complete in
@@ -202,7 +203,7 @@ after_return it done label excluded x k (called e) calls complete is =
     let g : 0 ≡ 1 = sym (ap (λ (y : Item). y.instance.nonterminal) e) ∙ at.callee_is in
     absurd (omega (arith, g))
 
-rule : (x : Item) → Follows one_letter (codes "a") (Contains four_items) x → Contains four_items x
+rule : (x : Item) → Follows one_letter (untabbed (codes "a")) (Contains four_items) x → Contains four_items x
 rule _ (items.root x e) = in_four 0 x (plain_item 0 0 0) refl e
 rule _ (items.test it names c x k before holds e) = absurd (test_never it names c (known it k) before)
 rule _ (items.bind it names name c v x k before has e) = absurd (bind_never it names name c (known it k) before)
@@ -213,7 +214,7 @@ rule _ (items.call it callee label excluded nonterminal a alternative x k calls 
 rule _ (items.return it done label excluded x k l calls complete free e) =
     after_return it done label excluded x k (known done l) calls complete e
 
-pub calls_start : Calls one_letter (codes "a") (plain_item 0 0 0) (plain_item 1 0 0).instance None []
+pub calls_start : Calls one_letter (untabbed (codes "a")) (plain_item 0 0 0) (plain_item 1 0 0).instance None []
 calls_start =
     record {
       names = [];
@@ -231,7 +232,7 @@ calls_start =
     }
 
 -- each of the four follows from those before it
-in_turn : IsDerivation one_letter (codes "a") four_items
+in_turn : IsDerivation one_letter (untabbed (codes "a")) four_items
 in_turn zero x e = items.root x (sym (same_Some (plain_item 0 0 0) x e))
 in_turn (suc zero) x e =
     items.call (plain_item 0 0 0) (plain_item 1 0 0).instance None [] (start letter) 1 letter x
@@ -258,6 +259,6 @@ in_turn (suc (suc (suc (suc k)))) x e = cc
 
 pub four_items_are_reachable : FourItemsAreReachable
 four_items_are_reachable x = (
-  kept one_letter (codes "a") (Contains four_items) rule x,
+  kept one_letter (untabbed (codes "a")) (Contains four_items) rule x,
   λ c. record { items = four_items; derivation = in_turn; among = c },
 )

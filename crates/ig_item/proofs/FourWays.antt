@@ -3,6 +3,7 @@ use Rattle.std.proofs.Common.{◌≡◌, ℕ, zero, suc, List, [], Some, None, r
 use Rattle.std.specs.Prelude.{slice_get, codes}
 use Rattle.std.proofs.lemmas.Option.{same_Some}
 use Rattle.std.proofs.lemmas.List.Elements.{All-nil}
+use Rattle.ig_text.specs.Input.{Input, untabbed}
 use Rattle.ig_text.specs.Pattern.{Matches}
 use Rattle.ig_text.specs.Place.{Spells}
 use Rattle.ig_text.specs.declared.pattern.Pattern.{Pattern}
@@ -18,8 +19,8 @@ use Rattle.ig_item.specs.declared.ways.Way.{Way}
 use Rattle.ig_item.specs.declared.ways.Way.TheVariants.{Begin, Leaf, Node}
 use Rattle.ig_item.proofs.FourItems.{Known, known, steps_of, ends, test_never, bind_never, terminal_at, call_at, letter_ends, calls_start, four_items_are_reachable}
 
-abbrev text : List ℕ
-text = codes "a"
+abbrev text : Input
+text = untabbed (codes "a")
 
 abbrev reached : Item → Type 0
 reached = Reachable one_letter text
@@ -93,7 +94,7 @@ letter_first = first_of letter_key 2 (end_of 2 (plain_item 1 1 1) letter_key ref
 
 by_letter : Gives one_letter text reached (plain_item 1 0 0) (given.leaf (record { begin = 0; end = 1 })) (plain_item 1 1 1)
 by_letter =
-    given.terminal (plain_item 1 0 0) [] (Literal text) None [] 1 _ _ (reach 1 _ refl)
+    given.terminal (plain_item 1 0 0) [] (Literal (codes "a")) None [] 1 _ _ (reach 1 _ refl)
     (record {
       nonterminal = start letter;
       alternative = letter;
@@ -152,8 +153,8 @@ complete k x _ _ at (given.bind prev names name e v _ r before has is) =
     absurd (bind_never prev names name e (known_of prev r) before)
 complete k x _ _ at (given.terminal prev names what label excluded j taken _ r before matches free t is) =
     let stands = terminal_at prev names what label excluded (known_of prev r) before in
-    let spells : Spells text text 0 j =
-    subst (λ (i : ℕ). Matches text (Literal text) i j) (ap (λ (y : Item). y.position) stands.is)
+    let spells : Spells text (codes "a") 0 j =
+    subst (λ (i : ℕ). Matches text (Literal (codes "a")) i j) (ap (λ (y : Item). y.position) stands.is)
     (subst (λ (p : Pattern). Matches text p prev.position j) (sym stands.what_is) matches) in
     let end = letter_ends j spells in
     let like : x ≡ plain_item 1 1 1 =

@@ -1,6 +1,7 @@
 -- The environment of an item begins with the values of its instance.
 use Rattle.std.proofs.Common.{◌≡◌, ℕ, List, [], ◌∷◌, ◌++◌, sym, ap, ◌∙◌, subst, append_assoc}
 use Rattle.std.proofs.lemmas.List.{append-nil}
+use Rattle.ig_text.specs.Input.{Input}
 use Rattle.ig_expr.specs.declared.value.Value.{Value}
 use Rattle.ig_item.specs.Items as items
 use Rattle.ig_item.specs.Items.{Item, Follows, first, past, root_instance, span_of}
@@ -19,7 +20,7 @@ grown : (it : Item) (vs : List Value) (j : ℕ) → Grown it → Grown (past it 
 grown it vs j g =
     (g.0 ++ vs, ap (λ (s : List Value). s ++ vs) g.1 ∙ append_assoc it.instance.values g.0 vs)
 
-module _ (core : List Nonterminal) (text : List ℕ) where
+module _ (core : List Nonterminal) (text : Input) where
   rule : (x : Item) → Follows core text Grown x → Grown x
   rule _ (items.root x e) = subst Grown (sym e) (begun root_instance 1)
   rule _ (items.test it names c x k before holds e) = subst Grown (sym e) (grown it [] it.position k)

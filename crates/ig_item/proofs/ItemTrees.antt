@@ -1,6 +1,7 @@
 -- The steps before an item's dot and those behind it lead from the start of its instance; so a complete item has a tree.
 use Rattle.std.proofs.Common.{◌≡◌, ℕ, suc, ◌≤◌, List, [], ◌∷◌, ◌++◌, Some, length, take, slice_get, refl, sym, ap, ◌∙◌, subst, take_all, le_of_eq, append_assoc}
 use Rattle.std.proofs.lemmas.List.{append-nil}
+use Rattle.ig_text.specs.Input.{Input}
 use Rattle.ig_text.proofs.Trees.{join_join, join-none}
 use Rattle.ig_text.proofs.Lists.{take_step}
 use Rattle.ig_text.specs.Tree.{Trees, Leaf, Node, none, more, one, join}
@@ -22,7 +23,7 @@ use Rattle.ig_item.proofs.Dots.{names_step, same_alternative}
 abbrev pub item_at : Instance → ℕ → ℕ → List Value → ℕ → Item
 item_at instance a dot env i = record { instance = instance; alternative = a; dot = dot; env = env; position = i }
 
-module _ (core : List Nonterminal) (text : List ℕ) where
+module _ (core : List Nonterminal) (text : Input) where
   -- whatever the steps behind the dot lead to, the steps before it and those lead there from the start
   pub record Before (x : Item) (ts : Trees) : Type 0 where
     pub nonterminal : Nonterminal

@@ -1,5 +1,6 @@
 -- Where the items of a text stand.
 use Rattle.std.proofs.Common.{ℕ, List, sym, subst, arith}
+use Rattle.ig_text.specs.Input.{Input}
 use Rattle.ig_text.proofs.Matching.{match_goes}
 use Rattle.ig_item.specs.Items as items
 use Rattle.ig_item.specs.Items.{Item, Follows}
@@ -7,7 +8,7 @@ use Rattle.ig_item.specs.Laws.{IsInText, ItemsAreInText}
 use Rattle.ig_item.specs.declared.core_grammar.Nonterminal.{Nonterminal}
 use Rattle.ig_item.specs.Induction.{kept}
 
-module _ (core : List Nonterminal) (text : List ℕ) where
+module _ (core : List Nonterminal) (text : Input) where
   rule : (x : Item) → Follows core text (IsInText text) x → IsInText text x
   rule _ (items.root x e) = subst (IsInText text) (sym e) (record { onward = omega arith; within = omega arith })
   rule _ (items.test it names c x k before holds e) =

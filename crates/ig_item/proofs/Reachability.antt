@@ -3,6 +3,7 @@ use Rattle.std.proofs.Common.{◌≡◌, ℕ, zero, suc, ◌+◌, List, [], ◌�
 use Rattle.std.specs.Prelude.{IsTrue}
 use Rattle.std.proofs.lemmas.Option.{same_Some}
 use Rattle.std.proofs.lemmas.List.Elements.{Contains-append_left, Contains-append_right}
+use Rattle.ig_text.specs.Input.{Input}
 use Rattle.ig_text.proofs.Lists.{contains_from_at, sides, left_before, right_before, all_before}
 use Rattle.ig_item.specs.Items as items
 use Rattle.ig_item.specs.Items.{Item, Follows, IsDerivation, Reachable}
@@ -10,7 +11,7 @@ use Rattle.ig_item.specs.Induction.{follows_more, kept}
 use Rattle.ig_item.specs.Laws.{ReachableIsClosed, ReachableFollows, ReachableIsLeast, MoreGivesNoLess}
 use Rattle.ig_item.specs.declared.core_grammar.Nonterminal.{Nonterminal}
 
-module _ (core : List Nonterminal) (text : List ℕ) where
+module _ (core : List Nonterminal) (text : Input) where
   pub joined : (xs ys : List Item) → IsDerivation core text xs → IsDerivation core text ys →
       IsDerivation core text (xs ++ ys)
   joined xs ys dx dy n x e =

@@ -3,6 +3,7 @@ use Rattle.std.proofs.Common.{◌≡◌, ℕ, suc, List, [], ◌∷◌, ◌++◌
 use Rattle.std.specs.List.{flat_map}
 use Rattle.std.proofs.lemmas.Option.{same_Some}
 use Rattle.std.proofs.lemmas.List.{nil_from_length}
+use Rattle.ig_text.specs.Input.{Input}
 use Rattle.ig_item.specs.Step.{names_of}
 use Rattle.ig_item.specs.Core.{IsAlternative, numbered}
 use Rattle.ig_item.specs.Visible.{names_at}
@@ -17,7 +18,7 @@ use Rattle.ig_item.proofs.Dots.{same_alternative, alone}
 use Rattle.ig_item.proofs.Reachability.{reach, follows_reachable}
 use Rattle.ig_item.proofs.Coming.{root_first}
 
-module _ (core : List Nonterminal) (text : List ℕ) (w : IsWellKinded core) where
+module _ (core : List Nonterminal) (text : Input) (w : IsWellKinded core) where
   -- x is the first item of alternative a
   beside : (instance : Instance) (a b : ℕ) (nonterminal : Nonterminal) (alternative : CoreAlt) →
       IsAlternative core instance.nonterminal b nonterminal alternative → (x : Item) →

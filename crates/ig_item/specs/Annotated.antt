@@ -1,5 +1,6 @@
 -- The values that the alternatives of a core grammar bind, and which tree with values a tree is, whatever is tested.
 use Rattle.std.specs.Prelude.{◌≡◌, ℕ, List, [], ◌∷◌, ◌++◌, map, length, drop, Option, Some}
+use Rattle.ig_text.specs.Input.{Input}
 use Rattle.ig_text.specs.Tree as plain
 use Rattle.ig_text.specs.declared.pattern.Pattern.{Pattern}
 use Rattle.ig_expr.specs.Expression.{Expression}
@@ -12,7 +13,7 @@ use Rattle.ig_item.specs.Items.{span_of}
 use Rattle.ig_item.specs.declared.core_grammar.Nonterminal.{Nonterminal}
 use Rattle.ig_item.specs.declared.core_grammar.CoreAlt.{CoreAlt}
 
-module _ (core : List Nonterminal) (text : List ℕ) where
+module _ (core : List Nonterminal) (text : Input) where
   mutual
     -- where these names have these values, the steps have these trees from i to j, whose nodes have the values that are
     -- bound there, and leave these values, each step those of the one before and its own behind them
@@ -45,5 +46,5 @@ module _ (core : List Nonterminal) (text : List ℕ) where
 
   -- the tree u is the tree t of the root over the whole text, with the values that each of its alternatives binds
   pub record Annotates (t : plain.Tree) (u : Tree) : Type 0 where
-    pub within : Within 0 [] 0 (length text) u
+    pub within : Within 0 [] 0 (length text.characters) u
     pub same : bare_tree u ≡ t

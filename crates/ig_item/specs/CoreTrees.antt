@@ -1,5 +1,6 @@
 -- The trees of a core grammar: its meaning without items.
 use Rattle.std.specs.Prelude.{◌≡◌, ℕ, List, [], ◌∷◌, ◌++◌, map, Option, Some, length, true}
+use Rattle.ig_text.specs.Input.{Input}
 use Rattle.ig_text.specs.Tree.{Tree, Trees, Leaf, Node, none, more}
 use Rattle.ig_text.specs.Pattern.{Matches}
 use Rattle.ig_text.specs.declared.pattern.Pattern.{Pattern}
@@ -13,7 +14,7 @@ use Rattle.ig_item.specs.Items.{span_of, MatchesNone}
 use Rattle.ig_item.specs.declared.core_grammar.Nonterminal.{Nonterminal}
 use Rattle.ig_item.specs.declared.core_grammar.CoreAlt.{CoreAlt}
 
-module _ (core : List Nonterminal) (text : List ℕ) where
+module _ (core : List Nonterminal) (text : Input) where
   mutual
     -- where these names have these values, the steps lead from i to j with these trees
     pub data Leads : List (List ℕ) → List Value → List Step → ℕ → ℕ → Trees → Type 0 where
@@ -49,4 +50,4 @@ module _ (core : List Nonterminal) (text : List ℕ) where
 
   -- a tree of the root over the whole text
   abbrev pub CoreTree : Tree → Type 0
-  CoreTree t = HasTree 0 [] 0 (length text) t
+  CoreTree t = HasTree 0 [] 0 (length text.characters) t

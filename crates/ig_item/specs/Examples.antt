@@ -1,5 +1,6 @@
 -- Core grammars of two small grammars.
 use Rattle.std.specs.Prelude.{◌↔◌, ℕ, List, [], ◌∷◌, Some, None, Contains, codes, pos}
+use Rattle.ig_text.specs.Input.{untabbed}
 use Rattle.ig_text.specs.declared.pattern.Pattern.TheVariants.{Literal}
 use Rattle.ig_text.specs.declared.tag.Tag.TheVariants.{Rule, Root}
 use Rattle.ig_expr.specs.Expression.{Expression, Integer, Variable, Binary}
@@ -52,7 +53,7 @@ four_items = plain_item 0 0 0 ∷ plain_item 1 0 0 ∷ plain_item 1 1 1 ∷ plai
 
 -- on the text `a` these are the reachable ones
 abbrev pub FourItemsAreReachable : Type 0
-FourItemsAreReachable = (x : Item) → Reachable one_letter (codes "a") x ↔ Contains four_items x
+FourItemsAreReachable = (x : Item) → Reachable one_letter (untabbed (codes "a")) x ↔ Contains four_items x
 
 -- the items before the first step begin, `S` comes by the letter, and the root by the node of `S`
 abbrev pub four_ways : WayLists
@@ -60,7 +61,7 @@ four_ways = record { firsts = Begin ∷ Begin ∷ Leaf 1 ∷ Node 0 2 ∷ []; fu
 
 -- these are their ways
 abbrev pub FourItemsHaveWays : Type 0
-FourItemsHaveWays = AreWays one_letter (codes "a") four_items four_ways
+FourItemsHaveWays = AreWays one_letter (untabbed (codes "a")) four_items four_ways
 
 abbrev pub variable : Expression
 variable = Variable (codes "n")

@@ -1,5 +1,6 @@
 -- Which item gives which by a rule, and what the step between them takes.
 use Rattle.std.specs.Prelude.{◌≡◌, ℕ, List, [], ◌∷◌, Option, true}
+use Rattle.ig_text.specs.Input.{Input}
 use Rattle.ig_text.specs.Pattern.{Matches}
 use Rattle.ig_text.specs.declared.pattern.Pattern.{Pattern}
 use Rattle.ig_text.specs.declared.text.Span.{Span}
@@ -29,7 +30,7 @@ pub record Completes (core : List Nonterminal) (x : Item) (key : NodeKey) : Type
   pub end : x.position ≡ key.end
 
 -- one of the rules of reachable items gives the last item from the first one, which is known, and whose next step takes this
-pub data Gives (core : List Nonterminal) (text : List ℕ) (known : Item → Type 0) : Item → Taken → Item → Type 0 where
+pub data Gives (core : List Nonterminal) (text : Input) (known : Item → Type 0) : Item → Taken → Item → Type 0 where
   -- (2) before a test whose condition is true
   test : (prev : Item) (names : List (List ℕ)) (e : Expression) (x : Item) → known prev →
       StandsBefore core prev names (Test e) → HasValue text prev names e (Bool true) → x ≡ past prev [] prev.position →

@@ -1,6 +1,7 @@
 -- Induction over reachable items, and what more known items change. A clause ranges over no properties of items, so these
 -- facts stand here with their proofs, and not as laws of src/laws.rt; nothing of this file has to be believed.
 use Rattle.std.proofs.Common.{◌≡◌, ℕ, zero, suc, ◌<◌, List, [], ◌∷◌, Some, take, Contains, slice_get, arith}
+use Rattle.ig_text.specs.Input.{Input}
 use Rattle.ig_text.proofs.Lists.{at_from_contains, within_take}
 use Rattle.ig_item.specs.Items as items
 use Rattle.ig_item.specs.Items.{Item, Follows, IsDerivation, Reachable}
@@ -12,7 +13,7 @@ use Rattle.ig_item.specs.declared.ways.Way.{Way}
 use Rattle.ig_item.specs.declared.ways.FurtherEnd.{FurtherEnd}
 use Rattle.ig_item.specs.declared.core_grammar.Nonterminal.{Nonterminal}
 
-module _ (core : List Nonterminal) (text : List ℕ) where
+module _ (core : List Nonterminal) (text : Input) where
   -- the rules give no less from more
   pub follows_more : {known wider : Item → Type 0} {x : Item} → ((y : Item) → known y → wider y) →
       Follows core text known x → Follows core text wider x

@@ -1,5 +1,6 @@
 -- Which trees the steps before the dot of an item give.
 use Rattle.std.specs.Prelude.{◌≡◌, ℕ, List, [], ◌∷◌, Option, true}
+use Rattle.ig_text.specs.Input.{Input}
 use Rattle.ig_text.specs.Tree.{Tree, Trees, Leaf, Node, none, one, join}
 use Rattle.ig_text.specs.Pattern.{Matches}
 use Rattle.ig_text.specs.declared.pattern.Pattern.{Pattern}
@@ -14,7 +15,7 @@ use Rattle.ig_item.specs.declared.items.Instance.{Instance}
 
 -- the step before which the item stands binds these values, leads to j, and gives these trees: none, a leaf, or a tree of the
 -- callee
-pub data Passes (core : List Nonterminal) (text : List ℕ) (it : Item) : List Value → ℕ → Trees → Type 0 where
+pub data Passes (core : List Nonterminal) (text : Input) (it : Item) : List Value → ℕ → Trees → Type 0 where
   test : (names : List (List ℕ)) (e : Expression) (j : ℕ) → StandsBefore core it names (Test e) →
       HasValue text it names e (Bool true) → j ≡ it.position → Passes core text it [] j none
   bind : (names : List (List ℕ)) (name : List ℕ) (e : Expression) (v : Value) (j : ℕ) →
@@ -30,13 +31,13 @@ pub data Passes (core : List Nonterminal) (text : List ℕ) (it : Item) : List V
       bound ≡ span_of label it.position j → ts ≡ one t → Passes core text it bound j ts
 
 -- the steps before the item's dot lead to it, from the first item of its alternative, with these trees
-pub data Comes (core : List Nonterminal) (text : List ℕ) : Item → Trees → Type 0 where
+pub data Comes (core : List Nonterminal) (text : Input) : Item → Trees → Type 0 where
   begin : (instance : Instance) (a : ℕ) (x : Item) → x ≡ first instance a → Comes core text x none
   further : (it : Item) (bound : List Value) (j : ℕ) (ts us vs : Trees) (x : Item) → Comes core text it ts →
       Passes core text it bound j us → x ≡ past it bound j → vs ≡ join ts us → Comes core text x vs
 
 -- the steps of an alternative lead through it from the instance's start to j, and the tree is that of the alternative
-pub record Completes (core : List Nonterminal) (text : List ℕ) (instance : Instance) (j : ℕ) (t : Tree) : Type 0 where
+pub record Completes (core : List Nonterminal) (text : Input) (instance : Instance) (j : ℕ) (t : Tree) : Type 0 where
   pub item : Item
   pub trees : Trees
   pub of_instance : item.instance ≡ instance

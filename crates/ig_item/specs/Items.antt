@@ -1,6 +1,7 @@
 -- Items of a core grammar and a text, and which of them are reachable.
 use Rattle.std.specs.Prelude.{◌≡◌, ℕ, suc, ◌<◌, List, [], ◌∷◌, ◌++◌, map, length, take, Contains, Option, Some, None, slice_get, true}
 use Rattle.std.specs.List.{All}
+use Rattle.ig_text.specs.Input.{Input}
 use Rattle.ig_text.specs.Pattern.{Matches}
 use Rattle.ig_text.specs.declared.pattern.Pattern.{Pattern}
 use Rattle.ig_expr.specs.Expression.{Expression}
@@ -43,7 +44,7 @@ span_of None i j = []
 span_of (Some name) i j = Span (record { begin = i; end = j }) ∷ []
 
 -- the text from i to j is a match of none of the patterns
-abbrev pub MatchesNone : List ℕ → List Pattern → ℕ → ℕ → Type 0
+abbrev pub MatchesNone : Input → List Pattern → ℕ → ℕ → Type 0
 MatchesNone text patterns i j = All (λ pattern. Matches text pattern i j → ⊥) patterns
 
 -- the item stands before that step, and these names are visible there
@@ -67,15 +68,15 @@ pub record IsCompleteRoot (core : List Nonterminal) (it : Item) : Type 0 where
   pub complete : IsComplete core it
 
 -- the expression has this value where the item stands, with these names
-abbrev pub HasValue : List ℕ → Item → List (List ℕ) → Expression → Value → Type 0
+abbrev pub HasValue : Input → Item → List (List ℕ) → Expression → Value → Type 0
 HasValue text it names e v = value_of text names it.env it.position e ≡ Some v
 
 -- the expressions have these values where the item stands, with these names
-abbrev pub HaveValues : List ℕ → Item → List (List ℕ) → List Expression → List Value → Type 0
+abbrev pub HaveValues : Input → Item → List (List ℕ) → List Expression → List Value → Type 0
 HaveValues text it names es vs = map (value_of text names it.env it.position) es ≡ map Some vs
 
 -- the item stands before a call of that instance, with this label and these excluded patterns
-pub record Calls (core : List Nonterminal) (text : List ℕ) (it : Item) (instance : Instance) (label : Option (List ℕ))
+pub record Calls (core : List Nonterminal) (text : Input) (it : Item) (instance : Instance) (label : Option (List ℕ))
     (excluded : List Pattern) : Type 0 where
   pub names : List (List ℕ)
   pub arguments : List Expression
@@ -84,7 +85,7 @@ pub record Calls (core : List Nonterminal) (text : List ℕ) (it : Item) (instan
   pub here : instance.start ≡ it.position
 
 -- the item follows by one rule from known ones
-pub data Follows (core : List Nonterminal) (text : List ℕ) (known : Item → Type 0) : Item → Type 0 where
+pub data Follows (core : List Nonterminal) (text : Input) (known : Item → Type 0) : Item → Type 0 where
   -- (1) the first item of the root at 0
   root : (x : Item) → x ≡ first root_instance 1 → Follows core text known x
   -- (2) before a test whose condition is true: the item after it
@@ -110,7 +111,7 @@ pub data Follows (core : List Nonterminal) (text : List ℕ) (known : Item → T
       MatchesNone text excluded it.position done.position →
       x ≡ past it (span_of label it.position done.position) done.position → Follows core text known x
 
-module _ (core : List Nonterminal) (text : List ℕ) where
+module _ (core : List Nonterminal) (text : Input) where
   -- each item of the list follows from those before it
   abbrev pub IsDerivation : List Item → Type 0
   IsDerivation xs = (k : ℕ) (x : Item) → slice_get xs k ≡ Some x → Follows core text (Contains (take k xs)) x
@@ -133,4 +134,4 @@ module _ (core : List Nonterminal) (text : List ℕ) where
     pub item : Item
     pub reachable : Reachable item
     pub root : IsCompleteRoot core item
-    pub to_end : item.position ≡ length text
+    pub to_end : item.position ≡ length text.characters

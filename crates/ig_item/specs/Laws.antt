@@ -1,6 +1,7 @@
 -- Laws of core grammars and of reachable items.
 use Rattle.std.specs.Prelude.{◌≡◌, ◌↔◌, ℕ, suc, ◌+◌, ◌≤◌, List, [], ◌∷◌, ◌++◌, map, length, take, Contains, Bool, IsTrue, Some, slice_get}
 use Rattle.std.specs.List.{flat_map}
+use Rattle.ig_text.specs.Input.{Input}
 use Rattle.ig_text.specs.Tree as plain
 use Rattle.ig_text.specs.Tree.{Tree, Trees}
 use Rattle.ig_expr.specs.declared.value.Value.{Value}
@@ -81,33 +82,33 @@ StandsBeforeOne =
 -- what follows by one rule from reachable items is reachable
 abbrev pub ReachableIsClosed : Type 0
 ReachableIsClosed =
-    (core : List Nonterminal) (text : List ℕ) (x : Item) → Follows core text (Reachable core text) x → Reachable core text x
+    (core : List Nonterminal) (text : Input) (x : Item) → Follows core text (Reachable core text) x → Reachable core text x
 
 -- each reachable item follows by one rule from reachable items
 abbrev pub ReachableFollows : Type 0
 ReachableFollows =
-    (core : List Nonterminal) (text : List ℕ) (x : Item) → Reachable core text x → Follows core text (Reachable core text) x
+    (core : List Nonterminal) (text : Input) (x : Item) → Reachable core text x → Follows core text (Reachable core text) x
 
 -- each collection that has what follows from its items has all reachable items
 abbrev pub ReachableIsLeast : Type 0
 ReachableIsLeast =
-    (core : List Nonterminal) (text : List ℕ) (has : Item → Bool) →
+    (core : List Nonterminal) (text : Input) (has : Item → Bool) →
     ((x : Item) → Follows core text (λ y. IsTrue (has y)) x → IsTrue (has x)) →
     (x : Item) → Reachable core text x → IsTrue (has x)
 
 -- what follows from some items follows from more
 abbrev pub MoreGivesNoLess : Type 0
 MoreGivesNoLess =
-    (core : List Nonterminal) (text : List ℕ) (few many : List Item) → ((x : Item) → Contains few x → Contains many x) →
+    (core : List Nonterminal) (text : Input) (few many : List Item) → ((x : Item) → Contains few x → Contains many x) →
     (x : Item) → Follows core text (Contains few) x → Follows core text (Contains many) x
 
 -- the position of an item is not before the start of its instance, and within the text
-pub record IsInText (text : List ℕ) (x : Item) : Type 0 where
+pub record IsInText (text : Input) (x : Item) : Type 0 where
   pub onward : x.instance.start ≤ x.position
-  pub within : x.position ≤ length text
+  pub within : x.position ≤ length text.characters
 
 abbrev pub ItemsAreInText : Type 0
-ItemsAreInText = (core : List Nonterminal) (text : List ℕ) (x : Item) → Reachable core text x → IsInText text x
+ItemsAreInText = (core : List Nonterminal) (text : Input) (x : Item) → Reachable core text x → IsInText text x
 
 -- the item's alternative and dot are there; its arguments have the kinds of the parameters, and its environment has a
 -- value of its kind for each name that is visible at the dot
@@ -125,48 +126,48 @@ pub record EnvironmentFits (core : List Nonterminal) (x : Item) : Type 0 where
 -- an environment begins with the values of the instance, and what steps bind stands behind them
 abbrev pub EnvironmentsGrow : Type 0
 EnvironmentsGrow =
-    (core : List Nonterminal) (text : List ℕ) (x : Item) → Reachable core text x →
+    (core : List Nonterminal) (text : Input) (x : Item) → Reachable core text x →
     (bound : List Value) × (x.env ≡ x.instance.values ++ bound)
 
 -- in a well-kinded core grammar
 abbrev pub EnvironmentsFit : Type 0
 EnvironmentsFit =
-    (core : List Nonterminal) (text : List ℕ) (x : Item) → IsWellKinded core → Reachable core text x → EnvironmentFits core x
+    (core : List Nonterminal) (text : Input) (x : Item) → IsWellKinded core → Reachable core text x → EnvironmentFits core x
 
 -- in a well-kinded core grammar a complete item of the root over the whole text is reachable exactly where there is a tree
 abbrev pub TreesByItems : Type 0
 TreesByItems =
-    (core : List Nonterminal) (text : List ℕ) → IsWellKinded core →
+    (core : List Nonterminal) (text : Input) → IsWellKinded core →
     RootIsComplete core text ↔ ((t : Tree) × CoreTree core text t)
 
 -- an item is reachable exactly where the first item of its alternative is, and the steps before its dot lead from there to it
 abbrev pub ItemsByTrees : Type 0
 ItemsByTrees =
-    (core : List Nonterminal) (text : List ℕ) (x : Item) →
+    (core : List Nonterminal) (text : Input) (x : Item) →
     Reachable core text x ↔
     ((Reachable core text (first x.instance x.alternative)) × (ts : Trees) × (Comes core text x ts))
 
 -- a tree of an instance is one through which the steps of an alternative lead
 abbrev pub InstanceTrees : Type 0
 InstanceTrees =
-    (core : List Nonterminal) (text : List ℕ) (instance : Instance) (j : ℕ) (t : Tree) →
+    (core : List Nonterminal) (text : Input) (instance : Instance) (j : ℕ) (t : Tree) →
     HasTree core text instance.nonterminal instance.values instance.start j t ↔ Completes core text instance j t
 
 -- in a well-kinded core grammar the first items of all alternatives of an instance are reachable together
 abbrev pub AlternativesBegin : Type 0
 AlternativesBegin =
-    (core : List Nonterminal) (text : List ℕ) (instance : Instance) (a b : ℕ) (nonterminal : Nonterminal) (alternative : CoreAlt) →
+    (core : List Nonterminal) (text : Input) (instance : Instance) (a b : ℕ) (nonterminal : Nonterminal) (alternative : CoreAlt) →
     IsWellKinded core → Reachable core text (first instance a) →
     IsAlternative core instance.nonterminal b nonterminal alternative → Reachable core text (first instance b)
 
 -- in a well-kinded core grammar there is at most one complete item of the root for each start and position
 abbrev pub CompleteRootsAreOne : Type 0
 CompleteRootsAreOne =
-    (core : List Nonterminal) (text : List ℕ) (x y : Item) → IsWellKinded core → Reachable core text x →
+    (core : List Nonterminal) (text : Input) (x y : Item) → IsWellKinded core → Reachable core text x →
     Reachable core text y → x.instance.nonterminal ≡ 0 → y.instance ≡ x.instance → y.position ≡ x.position →
     IsComplete core x → IsComplete core y → x ≡ y
 
-module _ (core : List Nonterminal) (text : List ℕ) (names : List (List ℕ)) (env : List Value) where
+module _ (core : List Nonterminal) (text : Input) (names : List (List ℕ)) (env : List Value) where
   -- what one step alone leaves, and which trees it has
   abbrev pub LeavesAlone : Step → ℕ → ℕ → valued.Trees → List Value → Type 0
   LeavesAlone (Test e) i j ts after = (j ≡ i) × (ts ≡ valued.none) × (after ≡ env)
@@ -179,7 +180,7 @@ module _ (core : List Nonterminal) (text : List ℕ) (names : List (List ℕ)) (
       Within core text callee vs i j t × (ts ≡ valued.one t) × (after ≡ env ++ span_of label i j)
 
 -- what the steps before the last one leave, and what the last one leaves from there
-pub record LeaveInTurn (core : List Nonterminal) (text : List ℕ) (names : List (List ℕ)) (env : List Value)
+pub record LeaveInTurn (core : List Nonterminal) (text : Input) (names : List (List ℕ)) (env : List Value)
     (steps : List Step) (last : Step) (i j : ℕ) (ts : valued.Trees) (after : List Value) : Type 0 where
   pub between : List Value
   pub h : ℕ
@@ -192,7 +193,7 @@ pub record LeaveInTurn (core : List Nonterminal) (text : List ℕ) (names : List
 
 abbrev pub StepsLeaveInTurn : Type 0
 StepsLeaveInTurn =
-    (core : List Nonterminal) (text : List ℕ) (names : List (List ℕ)) (env : List Value) (steps : List Step) (last : Step)
+    (core : List Nonterminal) (text : Input) (names : List (List ℕ)) (env : List Value) (steps : List Step) (last : Step)
     (i j : ℕ) (ts : valued.Trees) (after : List Value) → Leaves core text names env (steps ++ last ∷ []) i j ts after →
     LeaveInTurn core text names env steps last i j ts after
 
@@ -200,7 +201,7 @@ StepsLeaveInTurn =
 -- position and leave its environment
 abbrev pub StepsLeaveEnvironments : Type 0
 StepsLeaveEnvironments =
-    (core : List Nonterminal) (text : List ℕ) (x : Item) (us : Trees) (nonterminal : Nonterminal) (alternative : CoreAlt)
+    (core : List Nonterminal) (text : Input) (x : Item) (us : Trees) (nonterminal : Nonterminal) (alternative : CoreAlt)
     (j : ℕ) (ts : valued.Trees) (after : List Value) →
     IsAlternative core x.instance.nonterminal x.alternative nonterminal alternative → Comes core text x us →
     Leaves core text nonterminal.params x.instance.values (take x.dot alternative.steps) x.instance.start j ts after →

@@ -1,5 +1,6 @@
 -- What a run records: the items that are reachable, and how they came about.
 use Rattle.std.specs.Prelude.{◌↔◌, ℕ, List, Contains}
+use Rattle.ig_text.specs.Input.{Input}
 use Rattle.ig_item.specs.WellKinded.{NoneTwice}
 use Rattle.ig_item.specs.Items.{Item, Reachable}
 use Rattle.ig_item.specs.Tables.{Tables, items_of}
@@ -9,15 +10,15 @@ use Rattle.ig_item.specs.declared.core_grammar.Nonterminal.{Nonterminal}
 -- the items and the ways that were recorded of a core grammar and a text
 pub record Recording : Type 0 where
   pub core : List Nonterminal
-  pub text : List ℕ
+  pub text : Input
   pub tables : Tables
   pub ways : WayLists
 
-abbrev pub recording : List Nonterminal → List ℕ → Tables → WayLists → Recording
+abbrev pub recording : List Nonterminal → Input → Tables → WayLists → Recording
 recording core text tables ways = record { core = core; text = text; tables = tables; ways = ways }
 
 -- the items of the tables are exactly the reachable ones
-abbrev pub AreReachable : List Nonterminal → List ℕ → Tables → Type 0
+abbrev pub AreReachable : List Nonterminal → Input → Tables → Type 0
 AreReachable core text tables = (x : Item) → Contains (items_of tables) x ↔ Reachable core text x
 
 -- the items are the reachable ones, nothing stands twice in a table, and the ways are those of the items

@@ -1,5 +1,6 @@
 -- How far a run came in a text, and what it expected there.
 use Rattle.std.specs.Prelude.{◌≡◌, ◌⊎◌, ℕ, ◌≤◌, List, Option}
+use Rattle.ig_text.specs.Input.{Input}
 use Rattle.ig_text.specs.declared.pattern.Pattern.{Pattern}
 use Rattle.ig_item.specs.Step.{Term}
 use Rattle.ig_item.specs.Items.{Item, StandsBefore, IsCompleteRoot, Reachable}
@@ -12,7 +13,7 @@ pub record Expects (core : List Nonterminal) (it : Item) (what : Pattern) : Type
   pub excluded : List Pattern
   pub before : StandsBefore core it names (Term what label excluded)
 
-module _ (core : List Nonterminal) (text : List ℕ) where
+module _ (core : List Nonterminal) (text : Input) where
   -- an item that counts: a reachable one that stands before a terminal, or a complete one of the root
   pub record Counts (it : Item) : Type 0 where
     pub reachable : Reachable core text it

@@ -1,5 +1,6 @@
 -- How the items of a run came about. An item is named by its number, which is its place in the list of the items.
 use Rattle.std.specs.Prelude.{◌≡◌, ◌≢◌, ◌↔◌, ℕ, ◌<◌, ◌≤◌, List, length, Contains, Some, slice_get}
+use Rattle.ig_text.specs.Input.{Input}
 use Rattle.ig_item.specs.Items.{Item, Reachable}
 use Rattle.ig_item.specs.Gives as given
 use Rattle.ig_item.specs.Gives.{NodeKey, Taken, nothing, tree, Completes, Gives}
@@ -55,7 +56,7 @@ module _ (core : List Nonterminal) (known : Item → Type 0) (items : List Item)
     pub first : (x : Item) (key : NodeKey) → known x → Completes core x key → (d : ℕ) × IsFirstEnd key d
     pub exact : (end : FurtherEnd) → Contains lists.ends end ↔ IsFurtherEnd end
 
-module _ (core : List Nonterminal) (text : List ℕ) (known : Item → Type 0) (items : List Item) where
+module _ (core : List Nonterminal) (text : Input) (known : Item → Type 0) (items : List Item) where
   -- the item can come about in that way: it begins an alternative, or a rule gives it so from known items
   pub data IsWay (x : Item) : Way → Type 0 where
     begin : x.dot ≡ 0 → IsWay x Begin
@@ -80,6 +81,6 @@ module _ (core : List Nonterminal) (text : List ℕ) (known : Item → Type 0) (
 -- node are listed. So of the items of `S = S S | "a"` on `aaa` the one behind both calls from 0 to 3 has two ways: from
 -- that behind the first call at 1, by the node of `S` from 1 to 3; and from that at 2, by the node from 2 to 3. One of them
 -- is the first, the other a further one. The items before the first call begin; that behind the letter comes by a leaf
-pub record AreWays (core : List Nonterminal) (text : List ℕ) (items : List Item) (lists : WayLists) : Type 0 where
+pub record AreWays (core : List Nonterminal) (text : Input) (items : List Item) (lists : WayLists) : Type 0 where
   pub ways : AreWaysOf core text (Reachable core text) items lists
   pub ends : AreEnds core (Reachable core text) items lists

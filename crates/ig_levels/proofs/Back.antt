@@ -1,6 +1,7 @@
 -- A tree that is derived under bounds is clean and keeps them.
 use Rattle.std.proofs.Common.{◌≡◌, ℕ, Bool, true, false, List, [], ◌∷◌, ◌++◌, map, refl, sym, ◌∙◌, ap, subst, Some}
 use Rattle.std.specs.Prelude.{◌&&◌, pos}
+use Rattle.ig_text.specs.Input.{Input}
 use Rattle.ig_text.specs.declared.tag.Tag.TheVariants as tag
 use Rattle.ig_text.specs.Place.{Spells}
 use Rattle.ig_text.specs.Pattern.{IsOneOf}
@@ -37,7 +38,7 @@ use Rattle.ig_levels.proofs.Operating.{low_at, high_at}
 use Rattle.ig_levels.proofs.Lowering.{listed_lowered, clear_listed, clear_choice, bindings_of_source, clean_join, no_pair_has, pair_has, alternative_from, chosen_from}
 use Rattle.ig_levels.proofs.Nodes.{asks_of, clean_unlevelled, clean_other, wanted_join}
 
-module _ (g g' : Grammar) (shapes shapes' : List Shape) (levelled : List ℕ → Bool) (text : List ℕ)
+module _ (g g' : Grammar) (shapes shapes' : List Shape) (levelled : List ℕ → Bool) (text : Input)
     (takes : Takes g g' shapes shapes' levelled) where
   -- a call of a levelled declaration, or labels round one
   abbrev pub IsLevelledCall : Symbol → Type 0

@@ -1,6 +1,7 @@
 -- A clean tree is derived under the bounds that it keeps.
 use Rattle.std.proofs.Common.{◌≡◌, ℕ, ◌≤◌, Bool, true, false, List, [], ◌∷◌, ◌++◌, map, refl, sym, ◌∙◌, ap, subst, Some}
 use Rattle.std.specs.Prelude.{◌≢◌, ◌&&◌}
+use Rattle.ig_text.specs.Input.{Input}
 use Rattle.ig_text.specs.declared.tag.Tag.TheVariants as tag
 use Rattle.ig_text.specs.Tree.{Tree, Trees, Node, none, more, one, join}
 use Rattle.ig_expr.specs.declared.value.Value.{Value}
@@ -27,7 +28,7 @@ use Rattle.ig_levels.proofs.Inserting.{appended, all_renewed, has_to, have_to, a
 use Rattle.ig_levels.proofs.Operating.{handed_at, wanted_behind, low_at, high_at, left_tree, right_tree}
 use Rattle.ig_levels.proofs.Lowering.{nothing_wanted, listed_lowered, chosen_to, alternative_to, clear_listed, clear_choice, bindings_of_source, clean_parts, no_pair_has, pair_has, flat}
 
-module _ (g g' : Grammar) (shapes shapes' : List Shape) (levelled : List ℕ → Bool) (text : List ℕ)
+module _ (g g' : Grammar) (shapes shapes' : List Shape) (levelled : List ℕ → Bool) (text : Input)
     (takes : Takes g g' shapes shapes' levelled) where
   pub record CoversTo (b : Bounds) (c : DeclKind) (xs : List Symbol) (env' : Environment) (i j : ℕ) (vs : Trees) (after : Environment) (starts : List ℕ) : Type 0 where
     pub left : Environment

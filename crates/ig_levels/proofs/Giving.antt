@@ -262,6 +262,7 @@ module _ (laws : LawsBelow) (later : List (List ℕ)) (not_left : Contains later
               fresh = λ e m l. none_in_nil e m;
               apart = λ i j name p q. absurd (cc);
               start = refl;
+              tabs = refl;
               bare = λ k d e before after start.
                   ap (λ (z : Decl). z.params) (sym (turned k d e before after)) ∙ ap (λ z. d.params ++ added_parameters z) (start_plain k d before start) ∙ append-nil d.params;
             };

@@ -5,6 +5,7 @@ use Rattle.std.proofs.lemmas.Bool.Decides.{nat_tests}
 use Rattle.std.proofs.lemmas.List.{append-nil}
 use Rattle.ig_expr.specs.Expression.{Expression, Integer, Truth, Here, Variable, Not, Negative, Binary, Of, Same, Spells, Outer, Inside, FreeBefore, FreeAfter}
 use Rattle.ig_expr.specs.Names.{look_up}
+use Rattle.ig_text.specs.Input.{Input}
 use Rattle.ig_text.specs.Words.{is_word}
 use Rattle.ig_text.proofs.Positions.{beside-cons}
 use Rattle.ig_text.proofs.Characters.{differs}
@@ -89,7 +90,7 @@ all_renewed [] vs env env' ins s = ins
 all_renewed (b ∷ bs) [] env env' ins s = ins
 all_renewed (b ∷ bs) (v ∷ vs) env env' ins s = all_renewed bs vs (with_value env b.name v) (with_value env' b.name v) (renewed ins b.name v s.0) s.2
 
-module _ (text : List ℕ) where
+module _ (text : Input) where
   abbrev valued : Environment → ℕ → Expression → Option Value
   valued env i e = value_of text (names env) (values env) i e
 

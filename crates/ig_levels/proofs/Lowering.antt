@@ -4,6 +4,7 @@ use Rattle.std.specs.Prelude.{◌&&◌, not, slice_get, option_map, pos}
 use Rattle.std.proofs.lemmas.Option.{slice_get-map}
 use Rattle.std.proofs.lemmas.List.{append-nil}
 use Rattle.std.proofs.Math.Bool.{and-false}
+use Rattle.ig_text.specs.Input.{Input}
 use Rattle.ig_text.specs.Tree.{Trees, none, more, join}
 use Rattle.ig_expr.specs.Expression.{Expression}
 use Rattle.ig_expr.specs.declared.value.Value.TheVariants as value
@@ -113,11 +114,11 @@ module _ (g : Grammar) where
   clean_join none us c d = d
   clean_join (more t ts) us c d = (c.0, clean_join ts us c.1 d)
 
-pub no_pair_has : (text : List ℕ) (env : Environment) (i : ℕ) → PairHas text env i no_pair 0 0
+pub no_pair_has : (text : Input) (env : Environment) (i : ℕ) → PairHas text env i no_pair 0 0
 no_pair_has text env i = record { left = refl; right = refl }
 
 -- the arguments of an operand have the bounds as values
-pub pair_has : (text : List ℕ) {b : Bounds} {env env' : Environment} → Inserted b env env' → (p : Place) → Fits p b → (first : Bool) (x : Symbol) (others : List Symbol) (i : ℕ)
+pub pair_has : (text : Input) {b : Bounds} {env env' : Environment} → Inserted b env env' → (p : Place) → Fits p b → (first : Bool) (x : Symbol) (others : List Symbol) (i : ℕ)
     (g : Grammar) → PairHas text env' i (pair_at p first x others) (cond (is_left p first x others) (left_of b) (cond (is_right p first x others) p.right 0))
     (cond (is_left p first x others) p.left (cond (is_right p first x others) (right_of b) 0))
 pair_has text {b = b} {env = env} {env' = env'} ins p fits first x others i g = go (is_left p first x others) refl (is_right p first x others) refl

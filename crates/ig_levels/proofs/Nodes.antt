@@ -3,6 +3,7 @@ use Rattle.std.proofs.Common.{◌≡◌, ℕ, suc, ◌+◌, ◌≤◌, Bool, tru
 use Rattle.std.specs.Prelude.{◌⊎◌, ◌&&◌, ◌||◌, not, slice_get, ◌==◌}
 use Rattle.std.proofs.lemmas.Option.{slice_get-map, same_Some}
 use Rattle.std.proofs.lemmas.List.{append-nil}
+use Rattle.ig_text.specs.Input.{Input}
 use Rattle.ig_text.specs.declared.tag.Tag.{Tag}
 use Rattle.ig_text.specs.declared.tag.Tag.TheVariants as tag
 use Rattle.ig_text.specs.Tree.{Tree, Trees, none, more, one, join}
@@ -89,7 +90,7 @@ loose_bounds (level ∷ []) k a is h =
     subst Loose (sym from.1) (free_bounds level.assoc from.0 is)
 loose_bounds (level ∷ next ∷ others) k a is h = absurd (cc)
 
-module _ (g : Grammar) (shapes : List Shape) (text : List ℕ) where
+module _ (g : Grammar) (shapes : List Shape) (text : Input) where
   pub record SameNode (decl1 decl : Decl) (a1 a : Levelled) : Type 0 where
     pub declaration : decl1 ≡ decl
     pub alternative : a1 ≡ a

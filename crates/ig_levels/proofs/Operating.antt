@@ -1,6 +1,7 @@
 -- Which trees operands have.
 use Rattle.std.proofs.Common.{◌≡◌, ℕ, Bool, true, false, List, ◌∷◌, refl, sym, ◌∙◌, ap, subst, cond}
 use Rattle.std.specs.Prelude.{◌&&◌, ◌||◌, not}
+use Rattle.ig_text.specs.Input.{Input}
 use Rattle.ig_text.specs.Tree.{Tree, Trees, none, more, one, join}
 use Rattle.ig_text.proofs.Trees.{join_join}
 use Rattle.ig_text.proofs.Booleans.{first_true, rest_true}
@@ -32,7 +33,7 @@ last_same (more v none) none t u e = absurd (cc)
 last_same (more v (more w ts)) none t u e = absurd (cc)
 last_same (more v ts) (more w us) t u e = let f : join ts (one t) ≡ join us (one u) = cc in last_same ts us t u f
 
-module _ (g : Grammar) (shapes : List Shape) (text : List ℕ) where
+module _ (g : Grammar) (shapes : List Shape) (text : Input) where
   pub test_bare : (x : Symbol) → is_test x ≡ true → {c : DeclKind} {env after : Environment} {i e j : ℕ} {ts : Trees} {starts : List ℕ} →
       Derives g shapes text c x env i e j ts after starts → ts ≡ none
   test_bare (Guard e) h (guard c condition env i holds) = refl

@@ -1,6 +1,7 @@
 -- A grammar in which a declaration stands for the root permits the same trees without levels, with the same values.
 use Rattle.std.proofs.Common.{◌≡◌, ℕ, suc, Bool, true, false, List, [], ◌∷◌, length, refl, sym, ◌∙◌, ap, subst, Some}
 use Rattle.std.specs.Prelude.{◌↔◌, slice_get}
+use Rattle.ig_text.specs.Input.{Input}
 use Rattle.ig_text.specs.declared.tag.Tag.TheVariants as tag
 use Rattle.ig_text.specs.Tree.{Tree, Trees, Node}
 use Rattle.ig_text.proofs.Lists.{at_from_contains}
@@ -48,7 +49,7 @@ lowered_is_free g decl among =
     (sym (slice_get-map (lowered_declaration (names_levelled g.decls)) g.decls at.0) ∙ at.1) in
     subst (λ (z : Decl). HasNoOperators z.levels) (sym from.2) (one_free from.0.levels _)
 
-module _ (g : Grammar) (shapes : List Shape) (text : List ℕ) (cleans : TreesWithoutOperatorsAreClean) (may : Lowerable g shapes)
+module _ (g : Grammar) (shapes : List Shape) (text : Input) (cleans : TreesWithoutOperatorsAreClean) (may : Lowerable g shapes)
     (root : RootAt (record { grammar = g; shapes = shapes })) where
   abbrev g' : Grammar
   g' = lowered_grammar g
@@ -92,8 +93,8 @@ module _ (g : Grammar) (shapes : List Shape) (text : List ℕ) (cleans : TreesWi
       go false e = refl
 
   declared_to : (start : List ℕ) (d : ℕ) (decl : Decl) (a : Levelled) → g.start ≡ Some start → Declares g shapes start d decl shape.Root → IsAlternative decl 1 a →
-      (children : Trees) (after : Environment) (starts : List ℕ) → Covers g shapes text decl.kind a.alternative.symbols [] 0 (length text) children after starts →
-      AllClean g children → Permitted g' shapes text (Node tag.Root 0 (length text) children)
+      (children : Trees) (after : Environment) (starts : List ℕ) → Covers g shapes text decl.kind a.alternative.symbols [] 0 (length text.characters) children after starts →
+      AllClean g children → Permitted g' shapes text (Node tag.Root 0 (length text.characters) children)
   declared_to start d decl a starts declares numbered children after ks covers clean =
       let idle = idle_root start d decl declares in
       let lower = covers_to g g' shapes shapes levelled text takes covers (place_in decl a) unbounded true (λ e. absurd (cc)) (λ e. absurd (cc)) clean
@@ -106,10 +107,10 @@ module _ (g : Grammar) (shapes : List Shape) (text : List ℕ) (cleans : TreesWi
         starts = ks;
         root = declared start d (lowered_declaration levelled decl) (flat levelled decl a) decl.kind _ starts
             (takes.forth start d decl shape.Root declares) (alternative_to levelled decl 1 a numbered) refl refl;
-        covered = subst (λ (z : List Symbol). Covers g' shapes text decl.kind z [] 0 (length text) children lower.left ks)
+        covered = subst (λ (z : List Symbol). Covers g' shapes text decl.kind z [] 0 (length text.characters) children lower.left ks)
             (sym (no_tests levelled (place_in decl a) idle a.level a.alternative.symbols)) lower.covers;
         whole = refl;
-        clean = all_clean (Node tag.Root 0 (length text) children);
+        clean = all_clean (Node tag.Root 0 (length text.characters) children);
       }
 
   forth : (t : Tree) → Permitted g shapes text t → Permitted g' shapes text t
@@ -117,17 +118,17 @@ module _ (g : Grammar) (shapes : List Shape) (text : List ℕ) (cleans : TreesWi
       subst (Permitted g' shapes text) (sym permitted.whole) (go permitted.root permitted.covered (subst (Clean g) permitted.whole permitted.clean).1)
     where
       go : {kind : DeclKind} {symbols : List Symbol} {children : Trees} {after : Environment} {starts : List ℕ} → IsRootAlternative g shapes kind symbols →
-          Covers g shapes text kind symbols [] 0 (length text) children after starts → AllClean g children → Permitted g' shapes text (Node tag.Root 0 (length text) children)
+          Covers g shapes text kind symbols [] 0 (length text.characters) children after starts → AllClean g children → Permitted g' shapes text (Node tag.Root 0 (length text.characters) children)
       go (written start symbols start_is undeclared same) covers clean =
           let at = root_at start start_is in absurd (undeclared at.d at.decl at.declares)
       go {children = children} {after = after} {starts = starts} (declared start d decl a kind symbols start_is declares numbered kinds same) covers clean =
           declared_to start d decl a start_is declares numbered children after starts
-          (subst (λ z. Covers g shapes text z a.alternative.symbols [] 0 (length text) children after starts) kinds
-          (subst (λ z. Covers g shapes text kind z [] 0 (length text) children after starts) same covers)) clean
+          (subst (λ z. Covers g shapes text z a.alternative.symbols [] 0 (length text.characters) children after starts) kinds
+          (subst (λ z. Covers g shapes text kind z [] 0 (length text.characters) children after starts) same covers)) clean
 
   declared_from : (start : List ℕ) (d : ℕ) (lower : Decl) (lower_a : Levelled) → g.start ≡ Some start → Declares g' shapes start d lower shape.Root →
       IsAlternative lower 1 lower_a → (children : Trees) (after : Environment) (starts : List ℕ) →
-      Covers g' shapes text lower.kind lower_a.alternative.symbols [] 0 (length text) children after starts → Permitted g shapes text (Node tag.Root 0 (length text) children)
+      Covers g' shapes text lower.kind lower_a.alternative.symbols [] 0 (length text.characters) children after starts → Permitted g shapes text (Node tag.Root 0 (length text.characters) children)
   declared_from start d lower lower_a starts declares numbered children after ks covers =
       let from = takes.back start d lower shape.Root declares in
       let decl = from.decl in
@@ -144,7 +145,7 @@ module _ (g : Grammar) (shapes : List Shape) (text : List ℕ) (cleans : TreesWi
         after = higher.after;
         starts = ks;
         root = declared start d decl a decl.kind _ starts from.declares alt.numbered refl refl;
-        covered = subst (λ z. Covers g shapes text z a.alternative.symbols [] 0 (length text) children higher.after ks) (ap (λ (z : Decl). z.kind) from.same) higher.covers;
+        covered = subst (λ z. Covers g shapes text z a.alternative.symbols [] 0 (length text.characters) children higher.after ks) (ap (λ (z : Decl). z.kind) from.same) higher.covers;
         whole = refl;
         clean = (clean_other g shapes text tag.Root (λ d k z. cc) children, higher.clean);
       }
@@ -153,21 +154,21 @@ module _ (g : Grammar) (shapes : List Shape) (text : List ℕ) (cleans : TreesWi
   back t permitted = subst (Permitted g shapes text) (sym permitted.whole) (go permitted.root permitted.covered)
     where
       go : {kind : DeclKind} {symbols : List Symbol} {children : Trees} {after : Environment} {starts : List ℕ} → IsRootAlternative g' shapes kind symbols →
-          Covers g' shapes text kind symbols [] 0 (length text) children after starts → Permitted g shapes text (Node tag.Root 0 (length text) children)
+          Covers g' shapes text kind symbols [] 0 (length text.characters) children after starts → Permitted g shapes text (Node tag.Root 0 (length text.characters) children)
       go (written start symbols start_is undeclared same) covers =
           let at = root_at start start_is in
           absurd (undeclared at.d (lowered_declaration levelled at.decl) (takes.forth start at.d at.decl shape.Root at.declares))
       go {children = children} {after = after} {starts = starts} (declared start d lower lower_a kind symbols start_is declares numbered kinds same) covers =
           declared_from start d lower lower_a start_is declares numbered children after starts
-          (subst (λ z. Covers g' shapes text z lower_a.alternative.symbols [] 0 (length text) children after starts) kinds
-          (subst (λ z. Covers g' shapes text kind z [] 0 (length text) children after starts) same covers))
+          (subst (λ z. Covers g' shapes text z lower_a.alternative.symbols [] 0 (length text.characters) children after starts) kinds
+          (subst (λ z. Covers g' shapes text kind z [] 0 (length text.characters) children after starts) same covers))
 
   pub permits_same : (t : Tree) → Permitted g shapes text t ↔ Permitted g' shapes text t
   permits_same t = (forth t, back t)
 
   annotated_to : (u : valued.Tree) (t : Tree) (start : List ℕ) (d : ℕ) (decl : Decl) (a : Levelled) → g.start ≡ Some start → Declares g shapes start d decl shape.Root →
-      IsAlternative decl 1 a → (children : valued.Trees) (after : Environment) → Bind g shapes text decl.kind a.alternative.symbols [] 0 (length text) children after →
-      u ≡ valued.Node tag.Root (bound_between [] after) 0 (length text) children → valued.bare_tree u ≡ t → Annotates g' shapes text t u
+      IsAlternative decl 1 a → (children : valued.Trees) (after : Environment) → Bind g shapes text decl.kind a.alternative.symbols [] 0 (length text.characters) children after →
+      u ≡ valued.Node tag.Root (bound_between [] after) 0 (length text.characters) children → valued.bare_tree u ≡ t → Annotates g' shapes text t u
   annotated_to u t start d decl a starts declares numbered children after bind whole same =
       let idle = idle_root start d decl declares in
       let lower = bind_to g g' shapes shapes levelled text takes bind (place_in decl a) unbounded true (λ e. absurd (cc))
@@ -179,9 +180,9 @@ module _ (g : Grammar) (shapes : List Shape) (text : List ℕ) (cleans : TreesWi
         after = lower.grown;
         root = declared start d (lowered_declaration levelled decl) (flat levelled decl a) decl.kind _ starts
             (takes.forth start d decl shape.Root declares) (alternative_to levelled decl 1 a numbered) refl refl;
-        binds = subst (λ (z : List Symbol). Bind g' shapes text decl.kind z [] 0 (length text) children lower.grown)
+        binds = subst (λ (z : List Symbol). Bind g' shapes text decl.kind z [] 0 (length text.characters) children lower.grown)
             (sym (no_tests levelled (place_in decl a) idle a.level a.alternative.symbols)) lower.bind;
-        whole = whole ∙ ap (λ z. valued.Node tag.Root (bound_between [] z) 0 (length text) children) lower.source;
+        whole = whole ∙ ap (λ z. valued.Node tag.Root (bound_between [] z) 0 (length text.characters) children) lower.source;
         same = same;
       }
 
@@ -189,10 +190,10 @@ module _ (g : Grammar) (shapes : List Shape) (text : List ℕ) (cleans : TreesWi
   annotates_same t u annotated = go annotated.kind annotated.symbols annotated.root annotated.binds
     where
       go : (kind : DeclKind) (symbols : List Symbol) → IsRootAlternative g shapes kind symbols →
-          Bind g shapes text kind symbols [] 0 (length text) annotated.children annotated.after → Annotates g' shapes text t u
+          Bind g shapes text kind symbols [] 0 (length text.characters) annotated.children annotated.after → Annotates g' shapes text t u
       go kind symbols (written start _ start_is undeclared same) bind =
           let at = root_at start start_is in absurd (undeclared at.d at.decl at.declares)
       go kind symbols (declared start d decl a _ _ start_is declares numbered kinds same) bind =
           annotated_to u t start d decl a start_is declares numbered annotated.children annotated.after
-          (subst (λ z. Bind g shapes text z a.alternative.symbols [] 0 (length text) annotated.children annotated.after) kinds
-          (subst (λ z. Bind g shapes text kind z [] 0 (length text) annotated.children annotated.after) same bind)) annotated.whole annotated.same
+          (subst (λ z. Bind g shapes text z a.alternative.symbols [] 0 (length text.characters) annotated.children annotated.after) kinds
+          (subst (λ z. Bind g shapes text kind z [] 0 (length text.characters) annotated.children annotated.after) same bind)) annotated.whole annotated.same

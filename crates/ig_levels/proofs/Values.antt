@@ -2,6 +2,7 @@
 use Rattle.std.proofs.Common.{◌≡◌, ℕ, Bool, true, false, List, [], ◌∷◌, ◌++◌, map, append_assoc, refl, sym, ◌∙◌, ap, subst}
 use Rattle.std.specs.Prelude.{◌&&◌}
 use Rattle.std.proofs.lemmas.List.{append-nil}
+use Rattle.ig_text.specs.Input.{Input}
 use Rattle.ig_text.specs.declared.tag.Tag.{Tag}
 use Rattle.ig_expr.specs.ValuedTree.{Tree, Trees, Node, none}
 use Rattle.ig_expr.specs.declared.value.Value.{Value}
@@ -62,7 +63,7 @@ clear_inside a.ignore clear = clear
 clear_inside a.align clear = clear
 clear_inside (a.filtered filters) clear = clear
 
-module _ (g g' : Grammar) (shapes shapes' : List Shape) (levelled : List ℕ → Bool) (text : List ℕ)
+module _ (g g' : Grammar) (shapes shapes' : List Shape) (levelled : List ℕ → Bool) (text : Input)
     (takes : Takes g g' shapes shapes' levelled) where
   -- the environment of the other grammar grows by the same names and values
   pub record BindTo (c : DeclKind) (ys : List Symbol) (env env' : Environment) (i j : ℕ) (ts : Trees) (after : Environment) : Type 0 where

@@ -1,5 +1,6 @@
 -- Environments with bounds in them.
 use Rattle.std.specs.Prelude.{◌≡◌, ◌≢◌, ℕ, Bool, true, false, List, [], ◌∷◌, ◌++◌, pos}
+use Rattle.ig_text.specs.Input.{Input}
 use Rattle.ig_expr.specs.Expression.{Expression, Integer, Truth, Here, Variable, Not, Negative, Binary, Of, Same, Spells, Outer, Inside, FreeBefore, FreeAfter}
 use Rattle.ig_expr.specs.declared.value.Value.{Value}
 use Rattle.ig_expr.specs.declared.value.Value.TheVariants as value
@@ -40,7 +41,7 @@ pub data Inserted (b : Bounds) : Environment → Environment → Type 0 where
       Inserted b ((name, v) ∷ rest) ((name, v) ∷ env)
 
 -- the two arguments have these values
-pub record PairHas (text : List ℕ) (env : Environment) (i : ℕ) (pair : Pair) (l r : ℕ) : Type 0 where
+pub record PairHas (text : Input) (env : Environment) (i : ℕ) (pair : Pair) (l r : ℕ) : Type 0 where
   pub left : HasValue text env i pair.left (value.Int (pos l))
   pub right : HasValue text env i pair.right (value.Int (pos r))
 

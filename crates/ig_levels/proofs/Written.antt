@@ -34,6 +34,6 @@ level_added f levels i level n all more whole within read is added before =
         ap (λ k. numbered k level.assoc level.alts ++ by_level (drop (i + 1) levels)) count
 
 pub lowered_by : (g : Grammar) (table : BTreeMap (Bor (List ℕ)) Bool) (seen read result : List Decl) (start : Option (List ℕ)) → seen ≡ g.decls → read ≡ g.decls → Tells table seen →
-    result ≡ map (lowered_declaration (levelled_by table)) read → start ≡ g.start → record { start = start; decls = result } ≡ lowered_grammar g
+    result ≡ map (lowered_declaration (levelled_by table)) read → start ≡ g.start → record { start = start; tabs = g.tabs; decls = result } ≡ lowered_grammar g
 lowered_by g table seen read result start same again tells lowered started =
-    λ z. record { start = started z; decls = (lowered ∙ (λ y. map (lowered_declaration (λ name. (tells name ∙ ap (λ ds. names_levelled ds name) same) y)) (again y))) z }
+    λ z. record { start = started z; tabs = g.tabs; decls = (lowered ∙ (λ y. map (lowered_declaration (λ name. (tells name ∙ ap (λ ds. names_levelled ds name) same) y)) (again y))) z }

@@ -1,5 +1,6 @@
 -- What the pass keeps, what bounds ask, and how much the pass adds.
 use Rattle.std.specs.Prelude.{◌≢◌, ◌↔◌, ◌++◌, ℕ, List, [], ◌∷◌, pos, ◌≡◌, true}
+use Rattle.ig_text.specs.Input.{Input}
 use Rattle.ig_text.specs.Tree.{Tree}
 use Rattle.ig_expr.specs.declared.value.Value.{Value}
 use Rattle.ig_expr.specs.declared.value.Value.TheVariants.{Int}
@@ -32,7 +33,7 @@ LevelsKeep =
     (c : CheckedGrammar) → IsSound c → IsUnbound c.grammar left_name → IsUnbound c.grammar right_name → KeptByLevels c
 
 -- a tree of a nonterminal that keeps to the levels at each of its nodes, and to the bounds l and r along its outer spines
-pub record IsWithin (c : CheckedGrammar) (text : List ℕ) (name : List ℕ) (vs : List Value) (kind : DeclKind) (i e : ℕ)
+pub record IsWithin (c : CheckedGrammar) (text : Input) (name : List ℕ) (vs : List Value) (kind : DeclKind) (i e : ℕ)
     (t : Tree) (starts : List ℕ) (l r : ℕ) : Type 0 where
   pub derived : Instance c.grammar c.shapes text name vs kind i e t starts
   pub clean : Clean c.grammar t
@@ -43,7 +44,7 @@ pub record IsWithin (c : CheckedGrammar) (text : List ℕ) (name : List ℕ) (vs
 abbrev pub BoundsAskOfSpines : Type 0
 BoundsAskOfSpines =
     (c : CheckedGrammar) → IsSound c → IsUnbound c.grammar left_name → IsUnbound c.grammar right_name →
-    (text name : List ℕ) (vs : List Value) (kind : DeclKind) (i e : ℕ) (t : Tree) (starts : List ℕ) (l r : ℕ) →
+    (text : Input) (name : List ℕ) (vs : List Value) (kind : DeclKind) (i e : ℕ) (t : Tree) (starts : List ℕ) (l r : ℕ) →
     names_levelled (rooted Syntax c).grammar.decls name ≡ true →
     IsWithin (rooted Syntax c) text name vs kind i e t starts l r ↔
     Instance (LevelsOf c).grammar (LevelsOf c).shapes text name (vs ++ Int (pos l) ∷ Int (pos r) ∷ []) kind i e t starts

@@ -188,7 +188,7 @@ lowered_declaration levelled decl =
 
 -- each declaration with one level, whose bounds are parameters
 abbrev pub lowered_grammar : Grammar → Grammar
-lowered_grammar g = record { start = g.start; decls = map (lowered_declaration (names_levelled g.decls)) g.decls }
+lowered_grammar g = record { start = g.start; tabs = g.tabs; decls = map (lowered_declaration (names_levelled g.decls)) g.decls }
 
 -- the pass that takes levels away
 abbrev pub LevelsOf : CheckedGrammar → CheckedGrammar

@@ -55,7 +55,11 @@ fn lower_grammar(alloc: Global, grammar: &Grammar) -> Result<Grammar, AllocError
     let table = levelled_names(alloc, grammar.decls.as_slice())?;
     let decls = lower_declarations(alloc, &table, grammar.decls.as_slice())?;
     let start = copy_of_start(alloc, &grammar.start)?;
-    Ok(Grammar { start, decls })
+    Ok(Grammar {
+        start,
+        tabs: grammar.tabs,
+        decls,
+    })
 }
 
 /// The declarations, without levels.

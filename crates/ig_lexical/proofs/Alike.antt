@@ -1,6 +1,7 @@
 -- Two symbols of one form whose parts correspond: what the one derives the other derives too.
 use Rattle.std.proofs.Common.{◌≡◌, ℕ, zero, suc, List, refl, subst}
 use Rattle.std.specs.Prelude.{Some}
+use Rattle.ig_text.specs.Input.{Input}
 use Rattle.ig_text.specs.Tree.{Tree, Trees}
 use Rattle.ig_grammar.specs.Binding.{Binding}
 use Rattle.ig_grammar.specs.Symbol.{Symbol, Literal, OneOf, Call, Label, Guard, Let, Opt, Star, Plus, SepStar, SepPlus, Group, Offside, Ignore, Align, Filtered, Seq, Entry}
@@ -68,7 +69,7 @@ module _ (L P : Symbol → Symbol → Type 0) (Marks : Type 0) (Enters : List Bi
     seq_alike : (xs ys : Symbols) → EachSymbol xs ys → Alike (Seq xs) (Seq ys)
     entry_alike : (bs : List Binding) (x y : Symbol) → Enters bs → Alike x y → Alike (Entry bs x) (Entry bs y)
 
-lists_listed : {g : Grammar} {shapes : List Shape} {text : List ℕ} {c : DeclKind} {x : Symbol} {env : Environment} {i j : ℕ} {t : Tree} {starts items : List ℕ} →
+lists_listed : {g : Grammar} {shapes : List Shape} {text : Input} {c : DeclKind} {x : Symbol} {env : Environment} {i j : ℕ} {t : Tree} {starts items : List ℕ} →
     Lists g shapes text c x env i j t starts items → IsListed x
 lists_listed (nil _ _ _ _) = tt
 lists_listed (snoc _ _ _ _ _ _ _ _ _ _ _ _ _ _ _ _ _ _ _) = tt
@@ -79,12 +80,12 @@ lists_listed (further_item _ _ _ _ _ _ _ _ _ _ _ _ _ _ _ _ _ _ _ _ _ _ _ _ _ _ _
 lists_listed (no_item _ _ _ _ _) = tt
 lists_listed (some_items _ _ _ _ _ _ _ _ _ _) = tt
 
-items_listed : {g : Grammar} {shapes : List Shape} {text : List ℕ} {c : DeclKind} {x : Symbol} {env after : Environment} {i e j : ℕ} {ts : Trees} {starts items : List ℕ} →
+items_listed : {g : Grammar} {shapes : List Shape} {text : Input} {c : DeclKind} {x : Symbol} {env after : Environment} {i e j : ℕ} {ts : Trees} {starts items : List ℕ} →
     Items g shapes text c x env i e j ts after starts items → IsListed x
 items_listed (bare _ _ _ _ _ _ _ _ list) = lists_listed list
 items_listed (with_filters _ _ _ _ _ _ _ _ _ _ _ inner passes) = items_listed inner
 
-module _ (g : Grammar) (shapes : List Shape) (h : Grammar) (forms : List Shape) (text : List ℕ)
+module _ (g : Grammar) (shapes : List Shape) (h : Grammar) (forms : List Shape) (text : Input)
     (Meets : Environment → Environment → Type 0) (Given : List ℕ → Trees → Type 0)
     (Gains : List ℕ → List ℕ → Trees → Type 0) (c d : DeclKind) (Marks : Type 0) (Enters : List Binding → Type 0)
     (fits : Fits text Meets Given Gains Marks Enters) (L P : Symbol → Symbol → Type 0)

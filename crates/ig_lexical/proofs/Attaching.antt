@@ -3,6 +3,7 @@ use Rattle.std.proofs.Common.{◌≡◌, ◌∙◌, ℕ, List, [], ◌∷◌, �
 use Rattle.std.specs.Prelude.{◌↔◌}
 use Rattle.std.proofs.lemmas.List.{append-nil}
 use Rattle.std.proofs.lemmas.List.Elements.{All-nil, All-cons, All-head, All-tail}
+use Rattle.ig_text.specs.Input.{Input}
 use Rattle.ig_text.specs.Tree.{Trees, none, join}
 use Rattle.ig_text.specs.declared.pattern.Pattern.{Pattern}
 use Rattle.ig_text.specs.Pattern.{Matches}
@@ -25,25 +26,25 @@ use Rattle.ig_grammar.specs.Gathered.{listed_gathered}
 use Rattle.ig_lexical.specs.Filters.{befores, afters, exclusions, with_filters, guarded, attached}
 
 -- each has the value true
-abbrev pub Hold : List ℕ → Environment → ℕ → List Expression → Type 0
+abbrev pub Hold : Input → Environment → ℕ → List Expression → Type 0
 Hold text env here [] = Unit {0}
 Hold text env here (e ∷ es) = HasValue text env here e (value.Bool true) × Hold text env here es
 
-free_before : TestsLookFor → (text : List ℕ) (env : Environment) (here : ℕ) (pattern : Pattern) →
+free_before : TestsLookFor → (text : Input) (env : Environment) (here : ℕ) (pattern : Pattern) →
     HasValue text env here (FreeBefore pattern) (value.Bool true) ↔ ((h : ℕ) → Matches text pattern h here → ⊥)
 free_before looks text env here pattern = (looks text (names env) (values env) here).free_before pattern
 
-free_after : TestsLookFor → (text : List ℕ) (env : Environment) (here : ℕ) (pattern : Pattern) →
+free_after : TestsLookFor → (text : Input) (env : Environment) (here : ℕ) (pattern : Pattern) →
     HasValue text env here (FreeAfter pattern) (value.Bool true) ↔ ((h : ℕ) → Matches text pattern here h → ⊥)
 free_after looks text env here pattern = (looks text (names env) (values env) here).free_after pattern
 
 -- what filters ask is what their guards and exclusions ask
-pub record Asks (text : List ℕ) (env after : Environment) (i e : ℕ) (fs : List Filter) : Type 0 where
+pub record Asks (text : Input) (env after : Environment) (i e : ℕ) (fs : List Filter) : Type 0 where
   pub before : Hold text env i (befores fs)
   pub behind : Hold text after e (afters fs)
   pub excluded : PassesAll text i e (exclusions fs)
 
-pub asked : TestsLookFor → (text : List ℕ) (env after : Environment) (i e : ℕ) (fs : List Filter) → PassesAll text i e fs → Asks text env after i e fs
+pub asked : TestsLookFor → (text : Input) (env after : Environment) (i e : ℕ) (fs : List Filter) → PassesAll text i e fs → Asks text env after i e fs
 asked looks text env after i e [] p = record { before = tt; behind = tt; excluded = All-nil (Passes text i e) }
 asked looks text env after i e (NotFollowed pattern ∷ fs) p =
     let r = asked looks text env after i e fs (All-tail (Passes text i e) (NotFollowed pattern) fs p) in
@@ -55,7 +56,7 @@ asked looks text env after i e (Not pattern ∷ fs) p =
     let r = asked looks text env after i e fs (All-tail (Passes text i e) (Not pattern) fs p) in
     record { before = r.before; behind = r.behind; excluded = All-cons (Passes text i e) (Not pattern) (exclusions fs) (All-head (Passes text i e) (Not pattern) fs p) r.excluded }
 
-pub passed : TestsLookFor → (text : List ℕ) (env after : Environment) (i e : ℕ) (fs : List Filter) → Hold text env i (befores fs) → Hold text after e (afters fs) →
+pub passed : TestsLookFor → (text : Input) (env after : Environment) (i e : ℕ) (fs : List Filter) → Hold text env i (befores fs) → Hold text after e (afters fs) →
     PassesAll text i e (exclusions fs) → PassesAll text i e fs
 passed looks text env after i e [] b a x = All-nil (Passes text i e)
 passed looks text env after i e (NotFollowed pattern ∷ fs) b a x =
@@ -67,7 +68,7 @@ passed looks text env after i e (Not pattern ∷ fs) b a x =
     (passed looks text env after i e fs b a (All-tail (Passes text i e) (Not pattern) (exclusions fs) x))
 
 -- in a declaration of this kind no layout stands behind tokens
-module _ (looks : TestsLookFor) (g : Grammar) (shapes : List Shape) (text : List ℕ) (c : DeclKind)
+module _ (looks : TestsLookFor) (g : Grammar) (shapes : List Shape) (text : Input) (c : DeclKind)
     (tight : (e j : ℕ) (ts : Trees) → Trails g shapes text c e j ts → e ≡ j) where
   mutual
     pub own_end : {x : Symbol} {env after : Environment} {i e j : ℕ} {ts : Trees} {starts : List ℕ} → Derives g shapes text c x env i e j ts after starts → e ≡ j

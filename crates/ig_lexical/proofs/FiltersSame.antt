@@ -1,6 +1,7 @@
 -- The filters pass permits the same trees.
 use Rattle.std.proofs.Common.{◌≡◌, ◌∙◌, ℕ, suc, List, Some, None, refl, sym}
 use Rattle.std.specs.Prelude.{Contains}
+use Rattle.ig_text.specs.Input.{Input}
 use Rattle.ig_text.specs.Tree.{Trees}
 use Rattle.ig_expr.specs.Laws.{TestsLookFor}
 use Rattle.ig_meaning.specs.Laws.{HasNoOperators, TreesWithoutOperatorsAreClean}
@@ -26,7 +27,7 @@ use Rattle.ig_lexical.proofs.Always.{always_symbols}
 use Rattle.ig_lexical.proofs.Attaching.{attached_to, attached_from}
 use Rattle.ig_lexical.proofs.Pass.{rewritten_permits, layout_rewritten}
 
-tight : (g : Grammar) (shapes : List Shape) (text : List ℕ) (c : DeclKind) → layout_among g.decls ≡ None → (e j : ℕ) (ts : Trees) → Trails g shapes text c e j ts → e ≡ j
+tight : (g : Grammar) (shapes : List Shape) (text : Input) (c : DeclKind) → layout_among g.decls ≡ None → (e j : ℕ) (ts : Trees) → Trails g shapes text c e j ts → e ≡ j
 tight g shapes text c none e j ts (layout name _ _ _ _ _ declared _) = absurd (cc)
 tight g shapes text c none e j ts (no_layout _ _) = refl
 tight g shapes text c none e j ts (outside _ _ _) = refl

@@ -1,5 +1,6 @@
 -- What instances of one grammar cover those of the other cover too, by induction on the height of their trees.
 use Rattle.std.proofs.Common.{◌≡◌, ℕ, zero, suc, ◌+◌, ◌≤◌, List, ◌++◌, refl, sym, subst, arith}
+use Rattle.ig_text.specs.Input.{Input}
 use Rattle.ig_text.specs.declared.tag.Tag.{Tag}
 use Rattle.ig_text.specs.Tree.{Tree, Trees, Node, one, join, height, greatest_height}
 use Rattle.ig_text.proofs.Trees.{joined_height}
@@ -27,7 +28,7 @@ low_others n ks ls ts us l = let h = joined_height ts us in omega (arith, h, l)
 pub low_inside : (n : ℕ) (t : Tag) (i j : ℕ) (ks : List ℕ) (ts : Trees) → Low n ks (one (Node t i j ts)) → Low n ks ts
 low_inside n t i j ks ts l = omega (arith, l)
 
-module _ (g : Grammar) (shapes : List Shape) (h : Grammar) (forms : List Shape) (text : List ℕ)
+module _ (g : Grammar) (shapes : List Shape) (h : Grammar) (forms : List Shape) (text : Input)
     (Meets : Environment → Environment → Type 0) (Gains : List ℕ → List ℕ → Trees → Type 0)
     (Kinds : DeclKind → DeclKind → Type 0) (Named : List ℕ → Type 0) where
   pub record InstanceDerived (name : List ℕ) (vs : List Value) (kind : DeclKind) (i e : ℕ) (t : Tree) (starts : List ℕ) : Type 0 where

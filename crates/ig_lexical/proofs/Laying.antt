@@ -1,6 +1,7 @@
 -- The layout pass's own rule in a syntax declaration derives the same, from the grammar to the one with layout in the open.
 use Rattle.std.proofs.Common.{◌≡◌, ◌∙◌, ℕ, List, [], ◌∷◌, ◌++◌, Bool, true, false, refl, sym, ap, subst}
 use Rattle.std.specs.Prelude.{◌≢◌, Some, if◌then◌else◌}
+use Rattle.ig_text.specs.Input.{Input}
 use Rattle.ig_text.specs.Tree.{Tree, none}
 use Rattle.ig_expr.specs.declared.value.Value.{Value}
 use Rattle.ig_expr.specs.declared.value.Value.TheVariants as value
@@ -29,18 +30,18 @@ abbrev pub AnyEntry : List Binding → Type 0
 AnyEntry bs = Unit {0}
 
 -- each declaration of the name isn't lexical
-abbrev pub IsNotLexical : Grammar → List Shape → List ℕ → List ℕ → Type 0
+abbrev pub IsNotLexical : Grammar → List Shape → Input → List ℕ → Type 0
 IsNotLexical g shapes text name = (vs : List Value) (kind : DeclKind) (i e : ℕ) (t : Tree) (ks : List ℕ) → Instance g shapes text name vs kind i e t ks → kind ≢ Lexical
 
 -- what is decided by the declaration of a name
-pub record Decides (g : Grammar) (shapes : List Shape) (h : Grammar) (forms : List Shape) (text : List ℕ) : Type 0 where
+pub record Decides (g : Grammar) (shapes : List Shape) (h : Grammar) (forms : List Shape) (text : Input) : Type 0 where
   pub lexical : (name : List ℕ) → declares_lexical (declaration_of g.decls name) ≡ true → IsLexical g shapes h forms text name
   pub other : (name : List ℕ) → declares_lexical (declaration_of g.decls name) ≡ false → IsNotLexical g shapes text name
 
 abbrev pub NoLeaf : Symbol → Type 0
 NoLeaf x = ⊥
 
-module _ (g : Grammar) (shapes : List Shape) (h : Grammar) (forms : List Shape) (text : List ℕ) (decides : Decides g shapes h forms text) where
+module _ (g : Grammar) (shapes : List Shape) (h : Grammar) (forms : List Shape) (text : Input) (decides : Decides g shapes h forms text) where
   pub tokens : (x : Symbol) → is_token g.decls x ≡ true → IsToken g shapes h forms text x
   tokens (Literal word) e = literal_token word
   tokens (OneOf class) e = class_token class
@@ -61,7 +62,7 @@ module _ (g : Grammar) (shapes : List Shape) (h : Grammar) (forms : List Shape) 
   tokens (Seq _) e = absurd (cc)
   tokens (Entry _ _) e = absurd (cc)
 
-module _ (g : Grammar) (shapes : List Shape) (h : Grammar) (forms : List Shape) (text : List ℕ) (decides : Decides g shapes h forms text)
+module _ (g : Grammar) (shapes : List Shape) (h : Grammar) (forms : List Shape) (text : Input) (decides : Decides g shapes h forms text)
     (w : List ℕ) (declared : layout_among g.decls ≡ Some w) (there : IsTight h forms text Plain)
     (n : ℕ) (known : LowInstances g shapes h forms text SameEnv AnyStarts BecomesPlain AnyName n) where
   abbrev F : Symbol → Symbol → Type 0

@@ -1,6 +1,7 @@
 -- The layout pass's own rule in a syntax declaration derives the same, from the grammar with layout in the open.
 use Rattle.std.proofs.Common.{◌≡◌, ◌∙◌, ℕ, ◌≤◌, List, [], ◌∷◌, ◌++◌, Bool, true, false, refl, sym, ap, subst, arith}
 use Rattle.std.specs.Prelude.{◌≢◌, Some, if◌then◌else◌}
+use Rattle.ig_text.specs.Input.{Input}
 use Rattle.ig_text.specs.Tree.{Tree, Trees, Leaf, none, more, one, join, greatest_height}
 use Rattle.ig_text.proofs.Trees.{joined_height, join-none}
 use Rattle.ig_expr.specs.declared.value.Value.{Value}
@@ -29,14 +30,14 @@ abbrev pub AnyKind : DeclKind → DeclKind → Type 0
 AnyKind c d = Unit {0}
 
 -- each instance is of a plain declaration
-abbrev pub AllPlain : Grammar → List Shape → List ℕ → Type 0
+abbrev pub AllPlain : Grammar → List Shape → Input → Type 0
 AllPlain h forms text = (name : List ℕ) (vs : List Value) (kind : DeclKind) (i e : ℕ) (t : Tree) (ks : List ℕ) → Instance h forms text name vs kind i e t ks → kind ≡ Plain
 
 lexical_is_other : Lexical ≢ Plain
 lexical_is_other e = cc
 
 -- two symbols in place
-record Two (h : Grammar) (forms : List Shape) (text : List ℕ) (x y : Symbol) (env : Environment) (i j : ℕ) (ts : Trees) (after : Environment) : Type 0 where
+record Two (h : Grammar) (forms : List Shape) (text : Input) (x y : Symbol) (env : Environment) (i j : ℕ) (ts : Trees) (after : Environment) : Type 0 where
   between : Environment
   own : ℕ
   middle : ℕ
@@ -49,21 +50,21 @@ record Two (h : Grammar) (forms : List Shape) (text : List ℕ) (x y : Symbol) (
   second : Derives h forms text Plain y between middle later j vs after ls
   split : ts ≡ join us vs
 
-two_then : (h : Grammar) (forms : List Shape) (text : List ℕ) (x y : Symbol) (env between after : Environment) (i e p j : ℕ) (ts us vs : Trees) (ks ls : List ℕ) →
+two_then : (h : Grammar) (forms : List Shape) (text : Input) (x y : Symbol) (env between after : Environment) (i e p j : ℕ) (ts us vs : Trees) (ks ls : List ℕ) →
     Derives h forms text Plain x env i e p us between ks → ts ≡ join us vs → Covers h forms text Plain (y ∷ []) between p j vs after ls → Two h forms text x y env i j ts after
 two_then h forms text x y env between after i e p j ts us vs ks ls first split (symbol _ _ _ _ _ _ _ f _ _ ws _ _ ms _ _ second (empty _ _ _) trees exposes) =
     record { between = between; own = e; middle = p; later = f; us = us; vs = ws; ks = ks; ls = ms; first = first; second = second; split = split ∙ ap (join us) (trees ∙ join-none ws) }
 
-two : (h : Grammar) (forms : List Shape) (text : List ℕ) (x y : Symbol) (env after : Environment) (i j : ℕ) (ts : Trees) (starts : List ℕ) →
+two : (h : Grammar) (forms : List Shape) (text : Input) (x y : Symbol) (env after : Environment) (i j : ℕ) (ts : Trees) (starts : List ℕ) →
     Covers h forms text Plain (x ∷ y ∷ []) env i j ts after starts → Two h forms text x y env i j ts after
 two h forms text x y env after i j ts starts (symbol _ _ _ _ between _ _ e p _ us vs _ ks ls _ first rest trees exposes) =
     two_then h forms text x y env between after i e p j ts us vs ks ls first trees rest
 
-in_place : (h : Grammar) (forms : List Shape) (text : List ℕ) (x y : Symbol) (env after : Environment) (i e j : ℕ) (ts : Trees) (starts : List ℕ) →
+in_place : (h : Grammar) (forms : List Shape) (text : Input) (x y : Symbol) (env after : Environment) (i e j : ℕ) (ts : Trees) (starts : List ℕ) →
     Derives h forms text Plain (Seq (next_symbol x (next_symbol y no_symbols))) env i e j ts after starts → Two h forms text x y env i j ts after
 in_place h forms text x y env after i e j ts starts (sequence _ _ _ _ _ _ _ _ inner) = two h forms text x y env after i j ts starts inner
 
-module _ (g : Grammar) (shapes : List Shape) (h : Grammar) (forms : List Shape) (text : List ℕ) (decides : Decides g shapes h forms text)
+module _ (g : Grammar) (shapes : List Shape) (h : Grammar) (forms : List Shape) (text : Input) (decides : Decides g shapes h forms text)
     (w : List ℕ) (declared : layout_among g.decls ≡ Some w) (there : IsTight h forms text Plain) (plain : AllPlain h forms text)
     (n : ℕ) (known : LowInstances h forms g shapes text SameEnv AnyStarts AnyKind AnyName n) where
   abbrev F : Symbol → Symbol → Type 0

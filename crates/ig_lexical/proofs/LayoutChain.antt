@@ -1,6 +1,7 @@
 -- The layout pass's own rule at a token: a token with its label and filters, and behind it a call of the layout nonterminal.
 use Rattle.std.proofs.Common.{◌≡◌, ◌∙◌, ℕ, ◌≤◌, max, List, [], ◌∷◌, ◌++◌, refl, sym, subst, arith}
 use Rattle.std.specs.Prelude.{◌≢◌, Some, None}
+use Rattle.ig_text.specs.Input.{Input}
 use Rattle.ig_text.specs.declared.class.Class.{Class}
 use Rattle.ig_text.specs.Tree.{Tree, Trees, Leaf, none, more, one, height, greatest_height}
 use Rattle.ig_expr.specs.Expression.{Expression}
@@ -30,7 +31,7 @@ plain_is_other e = cc
 plain_is_no_token : Plain ≢ Lexical
 plain_is_no_token e = cc
 
-module _ (g : Grammar) (shapes : List Shape) (h : Grammar) (forms : List Shape) (text : List ℕ) where
+module _ (g : Grammar) (shapes : List Shape) (h : Grammar) (forms : List Shape) (text : Input) where
   -- each declaration of the name is lexical
   abbrev pub IsLexical : List ℕ → Type 0
   IsLexical name = (vs : List Value) (kind : DeclKind) (i e : ℕ) (t : Tree) (ks : List ℕ) → Instance g shapes text name vs kind i e t ks → kind ≡ Lexical

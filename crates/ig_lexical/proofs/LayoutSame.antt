@@ -1,6 +1,7 @@
 -- The layout pass permits the same trees.
 use Rattle.std.proofs.Common.{◌≡◌, ◌∙◌, ℕ, List, refl, sym, ap, subst}
 use Rattle.std.specs.Prelude.{◌↔◌, Contains, slice_get}
+use Rattle.ig_text.specs.Input.{Input}
 use Rattle.ig_text.specs.Tree.{Tree}
 use Rattle.ig_grammar.specs.Symbol.{Symbol}
 use Rattle.ig_meaning.specs.Laws.{HasNoOperators, TreesWithoutOperatorsAreClean}
@@ -42,7 +43,7 @@ pub record Given : Type 0 where
   pub passes : ResultsAreReady
   pub equivalence : SameTreesIsAnEquivalence
 
-module _ (given : Given) (g : Grammar) (shapes : List Shape) (scoped : IsWellScoped g) (none : OfEachLevel AlternativesHaveNoMark g) (text : List ℕ) where
+module _ (given : Given) (g : Grammar) (shapes : List Shape) (scoped : IsWellScoped g) (none : OfEachLevel AlternativesHaveNoMark g) (text : Input) where
   abbrev h : Grammar
   h = laid_grammar g
 

@@ -1,6 +1,7 @@
 -- Leaves, where environments and kinds stay and the calls in them are of names whose instances are known.
 use Rattle.std.proofs.Common.{◌≡◌, ◌∙◌, ℕ, ◌≤◌, max, List, [], ◌∷◌, ◌++◌, map, refl, sym, ap, subst, arith}
 use Rattle.std.specs.Prelude.{Some, true}
+use Rattle.ig_text.specs.Input.{Input}
 use Rattle.ig_text.specs.Tree.{Tree, Trees, Leaf, none, more, height, greatest_height}
 use Rattle.ig_expr.specs.declared.value.Value.TheVariants as value
 use Rattle.ig_grammar.specs.Symbol.{Symbol, Call}
@@ -37,7 +38,7 @@ abbrev pub IsCallOf : (List ℕ → Type 0) → Symbol → Type 0
 IsCallOf Named (Call name arguments) = Named name
 IsCallOf Named x = Unit {0}
 
-pub fits_same : (text : List ℕ) (n : ℕ) → Fits text SameEnv (Low n) SameStarts (Unit {0}) (λ bs. Unit {0})
+pub fits_same : (text : Input) (n : ℕ) → Fits text SameEnv (Low n) SameStarts (Unit {0}) (λ bs. Unit {0})
 fits_same text n =
     record {
       given_first = low_first n;
@@ -54,7 +55,7 @@ fits_same text n =
       enters_meets = λ bs env other vs enters same. ap (λ e. replaced e bs vs) same;
     }
 
-pub fits_any : (text : List ℕ) (n : ℕ) → Fits text SameEnv (Low n) AnyStarts (⊥) (λ bs. Unit {0})
+pub fits_any : (text : Input) (n : ℕ) → Fits text SameEnv (Low n) AnyStarts (⊥) (λ bs. Unit {0})
 fits_any text n =
     record {
       given_first = low_first n;
@@ -71,7 +72,7 @@ fits_any text n =
       enters_meets = λ bs env other vs enters same. ap (λ e. replaced e bs vs) same;
     }
 
-module _ (g : Grammar) (shapes : List Shape) (h : Grammar) (forms : List Shape) (text : List ℕ)
+module _ (g : Grammar) (shapes : List Shape) (h : Grammar) (forms : List Shape) (text : Input)
     (Gains : List ℕ → List ℕ → Trees → Type 0) (kept : (ks : List ℕ) (ts : Trees) → Gains ks ks ts)
     (shown : (ks ms : List ℕ) (ts us : Trees) → Gains ks ms ts → Gains ks ms us)
     (Named : List ℕ → Type 0)

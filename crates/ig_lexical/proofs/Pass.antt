@@ -3,6 +3,7 @@
 use Rattle.std.proofs.Common.{◌≡◌, ◌∙◌, ℕ, ◌+◌, ◌≤◌, List, [], ◌∷◌, Some, refl, sym, ap, subst, arith, length, map}
 use Rattle.std.specs.Prelude.{◌↔◌, slice_get, Contains}
 use Rattle.std.proofs.lemmas.List.{length-map, map-append}
+use Rattle.ig_text.specs.Input.{Input}
 use Rattle.ig_text.specs.Tree.{Tree, Trees, greatest_height}
 use Rattle.ig_grammar.specs.Symbol.{Symbol, Call, gathered, listed}
 use Rattle.ig_meaning.specs.Environment.{Environment}
@@ -60,13 +61,13 @@ module _ (own : Decl → Symbol → Symbol) (g : Grammar) (shapes : List Shape) 
   h = rewritten_grammar own g
 
   -- the pass's own rule, within the rewritten grammar, at each symbol in a declaration of g
-  pub record OwnRule (text : List ℕ) : Type 0 where
+  pub record OwnRule (text : Input) : Type 0 where
     pub to : (decl : Decl) (x : Symbol) (env after : Environment) (i e j : ℕ) (ts : Trees) (starts : List ℕ) → Contains g.decls decl → Throughout N x →
         Derives h shapes text decl.kind (within (own decl) x) env i e j ts after starts → (f : ℕ) × Derives h shapes text decl.kind (rewritten (own decl) x) env i f j ts after starts
     pub from : (decl : Decl) (x : Symbol) (env after : Environment) (i e j : ℕ) (ts : Trees) (starts : List ℕ) → Contains g.decls decl → Throughout N x →
         Derives h shapes text decl.kind (rewritten (own decl) x) env i e j ts after starts → (f : ℕ) × Derives h shapes text decl.kind (within (own decl) x) env i f j ts after starts
 
-  module _ (text : List ℕ) (rule : OwnRule text)
+  module _ (text : Input) (rule : OwnRule text)
       (everywhere : (decl : Decl) (k : ℕ) (a : Levelled) → Contains g.decls decl → IsAlternative decl k a → ThroughoutSymbols N (gathered a.alternative.symbols)) where
     admits : Admits N (Unit {0}) (λ bs. Unit {0})
     admits = record { offside = λ x q. tt; ignore = λ x q. tt; align = λ x q. tt; entry = λ bs x q. tt }
@@ -197,16 +198,16 @@ module _ (own : Decl → Symbol → Symbol) (g : Grammar) (shapes : List Shape) 
       permitted_there : (t : Tree) → Permitted g shapes text t → Permitted h shapes text t
       permitted_there t p = go p.kind p.symbols p.root p.covered
         where
-          go : (kind : DeclKind) (xs : List Symbol) → IsRootAlternative g shapes kind xs → Covers g shapes text kind xs [] 0 (length text) p.children p.after p.starts → Permitted h shapes text t
+          go : (kind : DeclKind) (xs : List Symbol) → IsRootAlternative g shapes kind xs → Covers g shapes text kind xs [] 0 (length text.characters) p.children p.after p.starts → Permitted h shapes text t
           go kind xs (written start _ started unrooted same) covered = let r = root start started in absurd (unrooted r.0 r.1 r.2)
           go kind xs (declared start d decl a _ _ started declares numbered same symbols) covered =
               let n = greatest_height p.children in
               let low : greatest_height p.children ≤ n = omega arith in
               let among = contains_from_at g.decls declares.numbered.0 decl declares.numbered.2 in
               let r = forward_covers n (forward n) decl among a.alternative.symbols (everywhere decl 1 a among numbered)
-              [] [] p.after 0 (length text) p.children p.starts refl low
-              (subst (λ c. Covers g shapes text c a.alternative.symbols [] 0 (length text) p.children p.after p.starts) same
-              (subst (λ ys. Covers g shapes text kind ys [] 0 (length text) p.children p.after p.starts) symbols covered)) in
+              [] [] p.after 0 (length text.characters) p.children p.starts refl low
+              (subst (λ c. Covers g shapes text c a.alternative.symbols [] 0 (length text.characters) p.children p.after p.starts) same
+              (subst (λ ys. Covers g shapes text kind ys [] 0 (length text.characters) p.children p.after p.starts) symbols covered)) in
               record {
                 kind = decl.kind;
                 symbols = map (rewritten (own decl)) a.alternative.symbols;
@@ -223,16 +224,16 @@ module _ (own : Decl → Symbol → Symbol) (g : Grammar) (shapes : List Shape) 
       permitted_here : (t : Tree) → Permitted h shapes text t → Permitted g shapes text t
       permitted_here t p = go p.kind p.symbols p.root p.covered
         where
-          go : (kind : DeclKind) (xs : List Symbol) → IsRootAlternative h shapes kind xs → Covers h shapes text kind xs [] 0 (length text) p.children p.after p.starts → Permitted g shapes text t
+          go : (kind : DeclKind) (xs : List Symbol) → IsRootAlternative h shapes kind xs → Covers h shapes text kind xs [] 0 (length text.characters) p.children p.after p.starts → Permitted g shapes text t
           go kind xs (written start _ started unrooted same) covered =
               let r = root start started in absurd (unrooted r.0 (rewritten_declaration own r.1) (there start r.0 r.1 shape.Root r.2))
           go kind xs (declared start d other b _ _ started declares numbered same symbols) covered =
               let n = greatest_height p.children in
               let low : greatest_height p.children ≤ n = omega arith in
               let too = backward_one n (backward n) start d other shape.Root 1 b declares numbered in
-              let r = too.covers [] [] p.after 0 (length text) p.children p.starts refl low
-              (subst (λ c. Covers h shapes text c b.alternative.symbols [] 0 (length text) p.children p.after p.starts) same
-              (subst (λ ys. Covers h shapes text kind ys [] 0 (length text) p.children p.after p.starts) symbols covered)) in
+              let r = too.covers [] [] p.after 0 (length text.characters) p.children p.starts refl low
+              (subst (λ c. Covers h shapes text c b.alternative.symbols [] 0 (length text.characters) p.children p.after p.starts) same
+              (subst (λ ys. Covers h shapes text kind ys [] 0 (length text.characters) p.children p.after p.starts) symbols covered)) in
               record {
                 kind = too.other.kind;
                 symbols = too.by.alternative.symbols;

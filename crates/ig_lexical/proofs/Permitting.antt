@@ -1,5 +1,6 @@
 -- From alternatives to permitted trees, in one direction, for grammars whose start stands for the root.
 use Rattle.std.proofs.Common.{◌≡◌, ◌∙◌, ℕ, ◌≤◌, List, [], refl, sym, subst, arith, length, Some}
+use Rattle.ig_text.specs.Input.{Input}
 use Rattle.ig_text.specs.declared.tag.Tag.{Tag}
 use Rattle.ig_text.specs.Tree.{Tree, Trees, Node, one, greatest_height}
 use Rattle.ig_grammar.specs.Symbol.{Symbol}
@@ -19,7 +20,7 @@ use Rattle.ig_lexical.proofs.Instances.{LowInstances, AlternativeToo, low_instan
 abbrev pub HasRoot : Grammar → List Shape → Type 0
 HasRoot g shapes = (start : List ℕ) → g.start ≡ Some start → (d : ℕ) × (decl : Decl) × Declares g shapes start d decl shape.Root
 
-module _ (g : Grammar) (shapes : List Shape) (h : Grammar) (forms : List Shape) (text : List ℕ)
+module _ (g : Grammar) (shapes : List Shape) (h : Grammar) (forms : List Shape) (text : Input)
     (Meets : Environment → Environment → Type 0) (Gains : List ℕ → List ℕ → Trees → Type 0)
     (Kinds : DeclKind → DeclKind → Type 0) (Named : List ℕ → Type 0)
     (gains_node : (t : Tag) (i j : ℕ) (ks ms : List ℕ) (ts : Trees) → Gains ks ms ts → Gains ks ms (one (Node t i j ts)))
@@ -30,16 +31,16 @@ module _ (g : Grammar) (shapes : List Shape) (h : Grammar) (forms : List Shape) 
       (t : Tree) → (Clean g t → Clean h t) → Permitted g shapes text t → Permitted h forms text t
   permitted_along met same_start named root t cleaned p = go p.kind p.symbols p.root p.covered
     where
-      go : (kind : DeclKind) (xs : List Symbol) → IsRootAlternative g shapes kind xs → Covers g shapes text kind xs [] 0 (length text) p.children p.after p.starts → Permitted h forms text t
+      go : (kind : DeclKind) (xs : List Symbol) → IsRootAlternative g shapes kind xs → Covers g shapes text kind xs [] 0 (length text.characters) p.children p.after p.starts → Permitted h forms text t
       go kind xs (written start _ started unrooted same) covered = let r = root start started in absurd (unrooted r.0 r.1 r.2)
       go kind xs (declared start d decl a _ _ started declares numbered same symbols) covered =
           let n = greatest_height p.children in
           let low : greatest_height p.children ≤ n = omega arith in
           let known = low_instances g shapes h forms text Meets Gains Kinds Named gains_node alternatives_too n in
           let too = alternatives_too n known start d decl shape.Root 1 a (named start started) declares numbered in
-          let r = too.covers [] [] p.after 0 (length text) p.children p.starts met low
-          (subst (λ c. Covers g shapes text c a.alternative.symbols [] 0 (length text) p.children p.after p.starts) same
-          (subst (λ ys. Covers g shapes text kind ys [] 0 (length text) p.children p.after p.starts) symbols covered)) in
+          let r = too.covers [] [] p.after 0 (length text.characters) p.children p.starts met low
+          (subst (λ c. Covers g shapes text c a.alternative.symbols [] 0 (length text.characters) p.children p.after p.starts) same
+          (subst (λ ys. Covers g shapes text kind ys [] 0 (length text.characters) p.children p.after p.starts) symbols covered)) in
           record {
             kind = too.other.kind;
             symbols = too.by.alternative.symbols;

@@ -52,7 +52,7 @@ turned becomes own decl =
     record { kind = becomes decl.kind; name = decl.name; params = decl.params; levels = map (rewritten_level (own decl)) decl.levels }
 
 abbrev pub turned_grammar : (DeclKind → DeclKind) → (Decl → Symbol → Symbol) → Grammar → Grammar
-turned_grammar becomes own g = record { start = g.start; decls = map (turned becomes own) g.decls }
+turned_grammar becomes own g = record { start = g.start; tabs = g.tabs; decls = map (turned becomes own) g.decls }
 
 -- a symbol asks by its head alone
 pub heads : (g : Grammar) (kind : DeclKind) (v : Visible) (x y : Symbol) → SameHead x y → Asks g.decls kind v x → Asks g.decls kind v y
@@ -158,6 +158,7 @@ module _ (passes : ResultsAreReady) (found : DeclarationsAreFound) (becomes : De
                 fresh = λ e m. absurd (none_in_nil e m);
                 apart = λ i j name p q. absurd (cc);
                 start = refl;
+                tabs = refl;
                 bare = λ k d e before after start. ap (λ (z : Decl). z.params) (sym (turned_back k d e before after));
               };
           each = λ k d e b before after m.

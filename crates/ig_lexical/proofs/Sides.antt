@@ -1,5 +1,6 @@
 -- Alternatives of the grammar and of the one with layout in the open cover the same.
 use Rattle.std.proofs.Common.{◌∙◌, ℕ, List, map, sym, ap, subst}
+use Rattle.ig_text.specs.Input.{Input}
 use Rattle.ig_grammar.specs.Symbol.{Symbol, Symbols, gathered, listed}
 use Rattle.ig_grammar.specs.declared.declaration.DeclKind.{DeclKind}
 use Rattle.ig_grammar.specs.declared.declaration.DeclKind.TheVariants.{Syntax, Plain}
@@ -24,7 +25,7 @@ use Rattle.ig_lexical.proofs.Unmarked.{admits}
 use Rattle.ig_lexical.proofs.Sorting.{Sort, laid_sort, tight_sort}
 
 -- symbols correspond each to each, so lists of them cover the same
-module _ (g : Grammar) (shapes : List Shape) (h : Grammar) (forms : List Shape) (text : List ℕ) (c d : DeclKind) (n : ℕ) (L : Symbol → Symbol → Type 0) where
+module _ (g : Grammar) (shapes : List Shape) (h : Grammar) (forms : List Shape) (text : Input) (c d : DeclKind) (n : ℕ) (L : Symbol → Symbol → Type 0) where
   abbrev R : Symbol → Symbol → Type 0
   R = sim.Replaces g shapes h forms text SameEnv (Low n) AnyStarts c d
 
@@ -56,7 +57,7 @@ module _ (g : Grammar) (shapes : List Shape) (h : Grammar) (forms : List Shape) 
       (subst (λ ys. C ys (listed (gathered xs))) (ap listed (sym (symbols_gathered own xs)) ∙ listed_gathered (map (rewritten own) xs))
       (each_covers_back (gathered xs) (rewritten_symbols own (gathered xs)) each))
 
-module _ (g : Grammar) (shapes : List Shape) (h : Grammar) (forms : List Shape) (text : List ℕ) (decides : Decides g shapes h forms text)
+module _ (g : Grammar) (shapes : List Shape) (h : Grammar) (forms : List Shape) (text : Input) (decides : Decides g shapes h forms text)
     (there : IsTight h forms text Plain) (n : ℕ) where
   pub forward_covers : LowInstances g shapes h forms text SameEnv AnyStarts BecomesPlain AnyName n → (c : DeclKind) (own : Symbol → Symbol) → Sort g shapes text c own →
       (xs : List Symbol) → ThroughoutSymbols IsNoMark (gathered xs) → sim.CoversToo g shapes h forms text SameEnv (Low n) AnyStarts c Plain xs (map (rewritten own) xs)

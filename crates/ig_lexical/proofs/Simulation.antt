@@ -1,5 +1,6 @@
 -- What one grammar derives the other one derives too: one lemma for each form, from the parts of the form.
 use Rattle.std.proofs.Common.{◌≡◌, ℕ, List, [], ◌∷◌, ◌++◌, map, refl, sym, ap}
+use Rattle.ig_text.specs.Input.{Input}
 use Rattle.ig_text.specs.declared.tag.Tag.{Tag}
 use Rattle.ig_text.specs.declared.tag.Tag.TheVariants as tag
 use Rattle.ig_text.specs.Tree.{Tree, Trees, Node, none, more, one, join}
@@ -25,7 +26,7 @@ IsOfForm t = Unit {0}
 
 -- environments that correspond; what is given of the starts and trees of the first; what is gained of the starts of
 -- both, and the trees
-module _ (text : List ℕ) (Meets : Environment → Environment → Type 0) (Given : List ℕ → Trees → Type 0)
+module _ (text : Input) (Meets : Environment → Environment → Type 0) (Given : List ℕ → Trees → Type 0)
     (Gains : List ℕ → List ℕ → Trees → Type 0) (Marks : Type 0) (Enters : List Binding → Type 0) where
   pub record Fits : Type 0 where
     pub given_first : (ks ls : List ℕ) (ts us : Trees) → Given (ks ++ ls) (join ts us) → Given ks ts
@@ -46,7 +47,7 @@ module _ (text : List ℕ) (Meets : Environment → Environment → Type 0) (Giv
     pub enters_meets : (bs : List Binding) (env other : Environment) (vs : List Value) → Enters bs → Meets env other →
         Meets (replaced env bs vs) (replaced other bs vs)
 
-module _ (g : Grammar) (shapes : List Shape) (h : Grammar) (forms : List Shape) (text : List ℕ)
+module _ (g : Grammar) (shapes : List Shape) (h : Grammar) (forms : List Shape) (text : Input)
     (Meets : Environment → Environment → Type 0) (Given : List ℕ → Trees → Type 0)
     (Gains : List ℕ → List ℕ → Trees → Type 0) where
   -- the second grammar derives the same

@@ -1,6 +1,7 @@
 -- The kinds of declarations, before the layout pass and after it.
 use Rattle.std.proofs.Common.{◌≡◌, ◌∙◌, ℕ, List, true, false, Option, Some, None, refl, sym, ap, subst}
 use Rattle.std.specs.Prelude.{◌≢◌}
+use Rattle.ig_text.specs.Input.{Input}
 use Rattle.ig_text.specs.Tree.{Tree, Trees, none}
 use Rattle.ig_text.proofs.Lists.{from_map}
 use Rattle.ig_expr.specs.declared.value.Value.{Value}
@@ -31,7 +32,7 @@ other_kind Syntax e = λ f. cc
 other_kind Layout e = λ f. cc
 other_kind Plain e = λ f. cc
 
-module _ (found : DeclarationsAreFound) (g : Grammar) (scoped : IsWellScoped g) (shapes : List Shape) (text : List ℕ) where
+module _ (found : DeclarationsAreFound) (g : Grammar) (scoped : IsWellScoped g) (shapes : List Shape) (text : Input) where
   instance_kind : (name : List ℕ) (vs : List Value) (kind : DeclKind) (i e : ℕ) (t : Tree) (ks : List ℕ) → Instance g shapes text name vs kind i e t ks →
       declares_lexical (declaration_of g.decls name) ≡ is_lexical kind
   instance_kind name vs kind i e t ks (alternative _ _ _ d k decl shape a env after _ _ ts _ _ declares numbered bound same covers tree) =
@@ -44,12 +45,12 @@ module _ (found : DeclarationsAreFound) (g : Grammar) (scoped : IsWellScoped g) 
         other = λ name q vs kind i e t ks instance. other_kind kind (sym (instance_kind name vs kind i e t ks instance) ∙ q);
       }
 
-pub all_plain : (g : Grammar) (forms : List Shape) (text : List ℕ) → AllPlain (laid_grammar g) forms text
+pub all_plain : (g : Grammar) (forms : List Shape) (text : Input) → AllPlain (laid_grammar g) forms text
 all_plain g forms text name vs kind i e t ks (alternative _ _ _ d k decl shape a env after _ _ ts _ _ declares numbered bound same covers tree) =
     let r = from_map (laid_declaration g.decls) g.decls declares.numbered.0 decl declares.numbered.2 in
     same ∙ ap (λ z. z.kind) r.2
 
-outside_tight : (g : Grammar) (shapes : List Shape) (text : List ℕ) (c : DeclKind) → c ≢ Syntax → IsTight g shapes text c
+outside_tight : (g : Grammar) (shapes : List Shape) (text : Input) (c : DeclKind) → c ≢ Syntax → IsTight g shapes text c
 outside_tight g shapes text c other = record { nothing = λ e j ts trails. go c other e j ts trails; allowed = λ e. outside c e other }
   where
     go : (c : DeclKind) → c ≢ Syntax → (e j : ℕ) (ts : Trees) → Trails g shapes text c e j ts → (e ≡ j) × (ts ≡ none)
@@ -57,7 +58,7 @@ outside_tight g shapes text c other = record { nothing = λ e j ts trails. go c 
     go c other e j ts (no_layout _ _) = absurd (other refl)
     go c other e j ts (outside _ _ _) = (refl, refl)
 
-unlaid_tight : (g : Grammar) (shapes : List Shape) (text : List ℕ) → layout_among g.decls ≡ None → IsTight g shapes text Syntax
+unlaid_tight : (g : Grammar) (shapes : List Shape) (text : Input) → layout_among g.decls ≡ None → IsTight g shapes text Syntax
 unlaid_tight g shapes text unlaid = record { nothing = go; allowed = λ e. no_layout e unlaid }
   where
     go : (e j : ℕ) (ts : Trees) → Trails g shapes text Syntax e j ts → (e ≡ j) × (ts ≡ none)
@@ -65,15 +66,15 @@ unlaid_tight g shapes text unlaid = record { nothing = go; allowed = λ e. no_la
     go e j ts (no_layout _ _) = (refl, refl)
     go e j ts (outside _ _ _) = (refl, refl)
 
-pub plain_tight : (g : Grammar) (shapes : List Shape) (text : List ℕ) → IsTight g shapes text Plain
+pub plain_tight : (g : Grammar) (shapes : List Shape) (text : Input) → IsTight g shapes text Plain
 plain_tight g shapes text = outside_tight g shapes text Plain (λ e. cc)
 
 -- in a declaration of the kind either layout is declared and it is a syntax declaration, or nothing stands behind a token
-pub data Sort (g : Grammar) (shapes : List Shape) (text : List ℕ) : DeclKind → (Symbol → Symbol) → Type 0 where
+pub data Sort (g : Grammar) (shapes : List Shape) (text : Input) : DeclKind → (Symbol → Symbol) → Type 0 where
   laid_sort : (w : List ℕ) → layout_among g.decls ≡ Some w → Sort g shapes text Syntax (laid g.decls w)
   tight_sort : (c : DeclKind) → IsTight g shapes text c → Sort g shapes text c (λ x. x)
 
-pub sort_of : (g : Grammar) (shapes : List Shape) (text : List ℕ) (c : DeclKind) → Sort g shapes text c (laid_in (layout_among g.decls) g.decls c)
+pub sort_of : (g : Grammar) (shapes : List Shape) (text : Input) (c : DeclKind) → Sort g shapes text c (laid_in (layout_among g.decls) g.decls c)
 sort_of g shapes text c = go (layout_among g.decls) refl c
   where
     go : (o : Option (List ℕ)) → layout_among g.decls ≡ o → (c : DeclKind) → Sort g shapes text c (laid_in o g.decls c)

@@ -1,6 +1,7 @@
 -- Leaves, in declarations where nothing stands behind a token.
 use Rattle.std.proofs.Common.{◌≡◌, ◌∙◌, ℕ, ◌≤◌, max, List, [], ◌∷◌, ◌++◌, refl, sym, ap, subst, arith, inl, inr}
 use Rattle.std.specs.Prelude.{◌≢◌, ◌⊎◌, true}
+use Rattle.ig_text.specs.Input.{Input}
 use Rattle.ig_text.specs.Tree.{Tree, Trees, Leaf, none, more, one, height, greatest_height}
 use Rattle.ig_expr.specs.Expression.{Expression}
 use Rattle.ig_expr.specs.declared.value.Value.{Value}
@@ -28,12 +29,12 @@ abbrev pub AnyName : List ℕ → Type 0
 AnyName name = Unit {0}
 
 -- nothing stands behind a token in a declaration of the kind
-pub record IsTight (g : Grammar) (shapes : List Shape) (text : List ℕ) (c : DeclKind) : Type 0 where
+pub record IsTight (g : Grammar) (shapes : List Shape) (text : Input) (c : DeclKind) : Type 0 where
   pub nothing : (e j : ℕ) (ts : Trees) → Trails g shapes text c e j ts → (e ≡ j) × (ts ≡ none)
   pub allowed : (e : ℕ) → Trails g shapes text c e e none
 
 -- an instance of any kind is called there
-pub called : (g : Grammar) (shapes : List Shape) (text : List ℕ) (c : DeclKind) → IsTight g shapes text c →
+pub called : (g : Grammar) (shapes : List Shape) (text : Input) (c : DeclKind) → IsTight g shapes text c →
     (name : List ℕ) (arguments : List Expression) (vs : List Value) (env : Environment) (kind : DeclKind) (i e : ℕ) (t : Tree) (ks : List ℕ) →
     HaveValues text env i arguments vs → Instance g shapes text name vs kind i e t ks → (ms : List ℕ) × Derives g shapes text c (Call name arguments) env i e e (one t) env ms
 called g shapes text c tight name arguments vs env kind i e t ks have instance = go (lexical_or_not kind)
@@ -49,7 +50,7 @@ called g shapes text c tight name arguments vs env kind i e t ks have instance =
 pub first_low : (n : ℕ) (t : Tree) (us ts : Trees) → ts ≡ more t us → greatest_height ts ≤ n → height t ≤ n
 first_low n t us ts same low = let l : max (height t) (greatest_height us) ≤ n = subst (λ vs. greatest_height vs ≤ n) same low in omega (arith, l)
 
-module _ (g : Grammar) (shapes : List Shape) (h : Grammar) (forms : List Shape) (text : List ℕ) (c d : DeclKind)
+module _ (g : Grammar) (shapes : List Shape) (h : Grammar) (forms : List Shape) (text : Input) (c d : DeclKind)
     (here : IsTight g shapes text c) (there : IsTight h forms text d)
     (Kinds : DeclKind → DeclKind → Type 0) (n : ℕ) (known : LowInstances g shapes h forms text SameEnv AnyStarts Kinds AnyName n) where
   abbrev There : Symbol → Environment → ℕ → ℕ → ℕ → Trees → Environment → List ℕ → Type 0

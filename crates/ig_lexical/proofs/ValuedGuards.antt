@@ -1,5 +1,6 @@
 -- The filters pass's own rule keeps what is bound.
 use Rattle.std.proofs.Common.{◌≡◌, ◌∙◌, ℕ, List, [], ◌∷◌, ◌++◌, map, refl, sym, ap, subst}
+use Rattle.ig_text.specs.Input.{Input}
 use Rattle.ig_expr.specs.Expression.{Expression}
 use Rattle.ig_expr.specs.ValuedTree.{Trees, none, more, join}
 use Rattle.ig_expr.specs.JoinedTrees.{join-none}
@@ -22,7 +23,7 @@ whole_attached (Label name x) w = absurd w
 whole_attached (Filtered x filters) w = absurd w
 whole_attached x w = refl
 
-module _ (g : Grammar) (shapes : List Shape) (text : List ℕ) (c : DeclKind) where
+module _ (g : Grammar) (shapes : List Shape) (text : Input) (c : DeclKind) where
   -- filters bind nothing
   filtered_inner : {z : Symbol} {env after : Environment} {i e j : ℕ} {ts : Trees} {d : DeclKind} →
       Binds g shapes text d z env i e j ts after → (x : Symbol) (filters : List Filter) → z ≡ Filtered x filters →

@@ -1,6 +1,7 @@
 -- A pass that rewrites symbols keeps the values of nodes.
 use Rattle.std.proofs.Common.{◌≡◌, ◌∙◌, ℕ, List, [], Option, Some, None, inl, inr, length, map, refl, sym, ap, subst}
 use Rattle.std.specs.Prelude.{Contains, slice_get}
+use Rattle.ig_text.specs.Input.{Input}
 use Rattle.ig_text.specs.Tree as plain
 use Rattle.ig_text.proofs.Lists.{contains_from_at, mapped_at}
 use Rattle.ig_expr.specs.ValuedTree.{Tree}
@@ -40,7 +41,7 @@ module _ (found : DeclarationsAreFound) (c : CheckedGrammar) (scoped : IsWellSco
   shapes = c.shapes
 
   -- the declaration of a name has the kind of its nodes
-  sorted : (text : List ℕ) (name : List ℕ) (vs : List Value) (kind : DeclKind) (i e : ℕ) (t : Tree) →
+  sorted : (text : Input) (name : List ℕ) (vs : List Value) (kind : DeclKind) (i e : ℕ) (t : Tree) →
       Within g shapes text name vs kind i e t → declares_lexical (declaration_of g.decls name) ≡ is_lexical kind
   sorted text name vs kind i e t
       (a.alternative _ _ _ d k decl shape by env after _ _ ts _ declares numbered bound same inner tree) =
@@ -53,7 +54,7 @@ module _ (found : DeclarationsAreFound) (c : CheckedGrammar) (scoped : IsWellSco
     abbrev h : Grammar
     h = turned_grammar kinds own g
 
-    module _ (text : List ℕ) (becomes : (decl : Decl) (k : ℕ) (by : Levelled) → Contains g.decls decl → IsAlternative decl k by →
+    module _ (text : Input) (becomes : (decl : Decl) (k : ℕ) (by : Levelled) → Contains g.decls decl → IsAlternative decl k by →
         Becomes g shapes h shapes text decl.kind (kinds decl.kind) by.alternative.symbols
         (map (rewritten (own decl)) by.alternative.symbols)) where
       -- the alternative of the same number, rewritten
@@ -85,7 +86,7 @@ module _ (found : DeclarationsAreFound) (c : CheckedGrammar) (scoped : IsWellSco
       annotated t u annotates = go annotates.root annotates.binds
         where
           go : {kind : DeclKind} {symbols : List Symbol} → IsRootAlternative g shapes kind symbols →
-              Bind g shapes text kind symbols [] 0 (length text) annotates.children annotates.after → Annotates h shapes text t u
+              Bind g shapes text kind symbols [] 0 (length text.characters) annotates.children annotates.after → Annotates h shapes text t u
           go (written start symbols started unrooted same) binds =
               let r = root start started in absurd (unrooted r.0 r.1 r.2)
           go (declared start d decl by kind symbols started declares numbered same listed) binds =
@@ -98,8 +99,8 @@ module _ (found : DeclarationsAreFound) (c : CheckedGrammar) (scoped : IsWellSco
                 root = declared start d m.other m.to m.other.kind _ started m.declares m.numbered refl refl;
                 binds =
                     bind_too g shapes h shapes text moves (sorted text) m.becomes
-                    (subst (λ z. Bind g shapes text z by.alternative.symbols [] 0 (length text) annotates.children annotates.after) same
-                    (subst (λ z. Bind g shapes text kind z [] 0 (length text) annotates.children annotates.after) listed binds));
+                    (subst (λ z. Bind g shapes text z by.alternative.symbols [] 0 (length text.characters) annotates.children annotates.after) same
+                    (subst (λ z. Bind g shapes text kind z [] 0 (length text.characters) annotates.children annotates.after) listed binds));
                 whole = annotates.whole;
                 same = annotates.same;
               }
@@ -112,7 +113,7 @@ module _ (found : DeclarationsAreFound) (c : CheckedGrammar) (scoped : IsWellSco
       own : Decl → Symbol → Symbol
       own decl = laid_in (layout_among g.decls) g.decls decl.kind
 
-      becomes : (text : List ℕ) (decl : Decl) (k : ℕ) (by : Levelled) → Contains g.decls decl → IsAlternative decl k by →
+      becomes : (text : Input) (decl : Decl) (k : ℕ) (by : Levelled) → Contains g.decls decl → IsAlternative decl k by →
           Becomes g shapes (turned_grammar (λ kind. Plain) own g) shapes text decl.kind Plain by.alternative.symbols
           (map (rewritten (own decl)) by.alternative.symbols)
       becomes text decl k by among numbered = go (layout_among g.decls) refl decl.kind refl

@@ -1,6 +1,7 @@
 -- What is annotated in a grammar is annotated in the one whose symbols are rewritten, with the same values.
 use Rattle.std.proofs.Common.{◌≡◌, ◌∙◌, ℕ, List, [], ◌∷◌, Bool, true, false, Some, None, inl, inr, map, refl, sym, ap, subst}
 use Rattle.std.specs.Prelude.{◌⊎◌, if◌then◌else◌}
+use Rattle.ig_text.specs.Input.{Input}
 use Rattle.ig_text.proofs.Options.{one_value}
 use Rattle.ig_expr.specs.ValuedTree.{Tree, Trees, Leaf, Node, none, more, one, join}
 use Rattle.ig_expr.specs.declared.value.Value.{Value}
@@ -34,7 +35,7 @@ pub record Bare (e j : ℕ) (us : Trees) : Type 0 where
   pub place : e ≡ j
   pub trees : us ≡ none
 
-module _ (g : Grammar) (shapes : List Shape) (h : Grammar) (forms : List Shape) (text : List ℕ) where
+module _ (g : Grammar) (shapes : List Shape) (h : Grammar) (forms : List Shape) (text : Input) where
   -- in declarations of the first kind no layout stands behind tokens, nor in those of the second one, and the own rule
   -- keeps what is bound
   pub record Calm (c d : DeclKind) (own : Symbol → Symbol) : Type 0 where

@@ -55,7 +55,11 @@ fn lay_grammar(alloc: Global, grammar: &Grammar) -> Result<Grammar, AllocError>
     let start = copy_of_start(alloc, &grammar.start)?;
     let guide = Guide::new(alloc, grammar.decls.as_slice())?;
     let decls = lay_declarations(alloc, &guide, grammar.decls.as_slice())?;
-    Ok(Grammar { start, decls })
+    Ok(Grammar {
+        start,
+        tabs: grammar.tabs,
+        decls,
+    })
 }
 
 /// The declarations, which are plain, with layout called in the open.

@@ -1,6 +1,7 @@
 -- The tree of a term, and how the grammar derives it.
 use Rattle.std.proofs.Common.{◌≡◌, ℕ, suc, ◌+◌, List, [], ◌∷◌, ◌++◌, Some, length, slice_get, refl, arith, length-append}
 use Rattle.std.specs.Prelude.{codes}
+use Rattle.ig_text.specs.Input.{untabbed}
 use Rattle.ig_text.specs.declared.tag.Tag.TheVariants.{Rule}
 use Rattle.ig_text.specs.Tree.{Tree, Leaf, Node, none, more, one}
 use Rattle.ig_grammar.specs.Numbering.{Levelled, by_level, Declares, as_written}
@@ -73,7 +74,7 @@ module _ (w : List ℕ) where
   -- the nonterminal covers this part of the text with this tree
   pub record IsDerived (i j : ℕ) (t : Tree) : Type 0 where
     pub starts : List ℕ
-    pub instance : Instance LoadGrammar (as_written LoadGrammar) w (codes "E") [] Syntax i j t starts
+    pub instance : Instance LoadGrammar (as_written LoadGrammar) (untabbed w) (codes "E") [] Syntax i j t starts
 
   -- a letter
   derived_operand : (n i : ℕ) → HasLetters (operand n) → Stands w (letter n ∷ []) i → IsDerived i (i + 1) (tree i (operand n))
@@ -94,7 +95,7 @@ module _ (w : List ℕ) where
 
   -- a call of the nonterminal
   called : (i j : ℕ) (t : Tree) (d : IsDerived i j t) →
-      Derives LoadGrammar (as_written LoadGrammar) w Syntax expression [] i j j (one t) [] d.starts
+      Derives LoadGrammar (as_written LoadGrammar) (untabbed w) Syntax expression [] i j j (one t) [] d.starts
   called i j t d = call Syntax Syntax (codes "E") [] [] [] i j t d.starts no_values d.instance (λ e. cc)
 
   -- an operator between two terms

@@ -7,6 +7,7 @@ use Rattle.std.proofs.lemmas.List.Elements.{All-nil, All-cons}
 use Rattle.std.proofs.lemmas.List.{append_assoc}
 use Rattle.std.proofs.lemmas.Str.{chars-IsAscii, IsUtf8-from_ascii}
 use Rattle.std.proofs.lemmas.Str.Ascii.{IsAscii-cons}
+use Rattle.ig_text.specs.Input.{Input, untabbed}
 use Rattle.ig_text.specs.Decoding.{IsDecoded, IsFaulty}
 use Rattle.ig_text.specs.declared.text.TextFault.TheVariants.{NotUtf8, TooLong}
 use Rattle.ig_load.specs.Operators.{Operator, power, times, plus, minus, sign, letter, letters, step_text, HasLetter}
@@ -89,9 +90,11 @@ one_more out one two whole size counter state first second sofar more is_first i
 
 module _ (size number : ℕ) (bytes : List ℕ) (is : bytes ≡ LoadInput size number) where
   -- its bytes are its characters
-  pub decoded_input : (text : List ℕ) → IsDecoded bytes text → text ≡ LoadInput size number
+  pub decoded_input : (text : Input) → IsDecoded 1 bytes text → text ≡ untabbed (LoadInput size number)
   decoded_input text d =
-      d.characters ∙ ap chars is ∙ chars-IsAscii (LoadInput size number) (input_is_ascii size number)
+      let letters : text.characters ≡ LoadInput size number =
+      d.characters ∙ ap chars is ∙ chars-IsAscii (LoadInput size number) (input_is_ascii size number) in
+      λ i. record { characters = letters i; tabs = d.tabs i }
 
   -- which are UTF-8
   pub input_is_utf8 : (at : ℕ) → IsFaulty bytes (NotUtf8 at) → ⊥

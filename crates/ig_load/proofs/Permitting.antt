@@ -2,6 +2,7 @@
 use Rattle.std.proofs.Common.{◌≡◌, ℕ, zero, suc, List, [], ◌∷◌, ◌++◌, Some, length, slice_get, refl, sym, subst, arith}
 use Rattle.std.specs.Prelude.{codes}
 use Rattle.std.proofs.lemmas.List.{append-nil}
+use Rattle.ig_text.specs.Input.{untabbed}
 use Rattle.ig_text.specs.declared.tag.Tag.{Tag}
 use Rattle.ig_text.specs.declared.tag.Tag.TheVariants.{Root}
 use Rattle.ig_text.specs.Tree.{Tree, Trees, Node, none, one}
@@ -39,13 +40,13 @@ unfolding LoadGrammar
 root = written (codes "E") (expression ∷ []) refl (λ d decl h. no_root h.shaped.0 h.shaped.2) refl
 
 covered : (w : List ℕ) (j : ℕ) (t : Tree) (d : IsDerived w 0 j t) →
-    Covers LoadGrammar (as_written LoadGrammar) w Syntax (expression ∷ []) [] 0 j (one t) [] (d.starts ++ [])
+    Covers LoadGrammar (as_written LoadGrammar) (untabbed w) Syntax (expression ∷ []) [] 0 j (one t) [] (d.starts ++ [])
 covered w j t d =
     symbol Syntax expression [] [] [] [] 0 j j j (one t) none (one t) d.starts [] (d.starts ++ [])
     (call Syntax Syntax (codes "E") [] [] [] 0 j t d.starts no_values d.instance (λ e. cc)) (empty Syntax [] j) refl refl
 
 permitted : (t : Term) → IsOrdered t → HasLetters t →
-    Permitted LoadGrammar (as_written LoadGrammar) (text t) (Node Root 0 (length (text t)) (one (tree 0 t)))
+    Permitted LoadGrammar (as_written LoadGrammar) (untabbed (text t)) (Node Root 0 (length (text t)) (one (tree 0 t)))
 permitted t ordered lettered =
     let d = derived (text t) t 0 lettered (stands_whole (text t) (sym (append-nil (text t)))) in
     let long = past_is t 0 in
@@ -58,7 +59,7 @@ permitted t ordered lettered =
       starts = d.starts ++ [];
       root = root;
       covered =
-          subst (λ (z : ℕ). Covers LoadGrammar (as_written LoadGrammar) (text t) Syntax (expression ∷ []) [] 0 z (one (tree 0 t)) [] (d.starts ++ []))
+          subst (λ (z : ℕ). Covers LoadGrammar (as_written LoadGrammar) (untabbed (text t)) Syntax (expression ∷ []) [] 0 z (one (tree 0 t)) [] (d.starts ++ []))
           end (covered (text t) (past 0 t) (tree 0 t) d);
       whole = refl;
       clean = (clean_root (one (tree 0 t)), (clean t 0 ordered, tt));
@@ -67,5 +68,5 @@ permitted t ordered lettered =
 pub chains_are_permitted : ChainsArePermitted
 chains_are_permitted first steps fits fit =
     let t = term_of first steps fits fit in
-    subst (λ (z : List ℕ). (u : Tree) × Permitted LoadGrammar (as_written LoadGrammar) z u) t.spelled
+    subst (λ (z : List ℕ). (u : Tree) × Permitted LoadGrammar (as_written LoadGrammar) (untabbed z) u) t.spelled
     (Node Root 0 (length (text t.term)) (one (tree 0 t.term)), permitted t.term t.ordered t.lettered)

@@ -3,6 +3,7 @@ use Rattle.std.proofs.Common.{◌≡◌, ℕ, ◌+◌, ◌-◌, ◌<◌, List, [
 use Rattle.std.specs.Prelude.{slice_get, IsTrue, false}
 use Rattle.std.proofs.Math.Seq.{drop-append_seam}
 use Rattle.std.proofs.lemmas.Bool.Decides.{nat_tests}
+use Rattle.ig_text.specs.Input.{untabbed}
 use Rattle.ig_text.proofs.Lists.{right_at}
 use Rattle.ig_text.specs.Class.{is_in_class}
 use Rattle.ig_text.specs.Place.{Spells}
@@ -49,7 +50,7 @@ reads_one text c i s =
     let place = s.place in
     rw s.parts (right_at s.before (c ∷ s.behind) i 0 c (omega arith) refl)
 
-pub spells_one : (text : List ℕ) (c i : ℕ) → Stands text (c ∷ []) i → Spells text (c ∷ []) i (i + 1)
+pub spells_one : (text : List ℕ) (c i : ℕ) → Stands text (c ∷ []) i → Spells (untabbed text) (c ∷ []) i (i + 1)
 spells_one text c i s =
     let long : length text ≡ length s.before + length (c ∷ s.behind) = ap length s.parts ∙ length-append s.before (c ∷ s.behind) in
     let place = s.place in
@@ -62,7 +63,7 @@ spells_one text c i s =
 
 -- a letter is one of the class
 pub is_letter : (text : List ℕ) (n i : ℕ) → n < letters → Stands text (letter n ∷ []) i →
-    IsOneOf text (Ranges false ((97, 122) ∷ [])) i (i + 1)
+    IsOneOf (untabbed text) (Ranges false ((97, 122) ∷ [])) i (i + 1)
 is_letter text n i fits s =
     record {
       character = letter n;

@@ -239,9 +239,10 @@ reads_levels =
 follows : FollowsRules tokens LoadGrammar
 unfolding LoadGrammar
 follows =
-    rules.with_start (codes "E") (token.Syntax ∷ token.Name (codes "E") ∷ token.Equals ∷ body) _
+    rules.with_start (codes "E") (token.Syntax ∷ token.Name (codes "E") ∷ token.Equals ∷ body) _ _
+    (rules.without_tabs (token.Syntax ∷ token.Name (codes "E") ∷ token.Equals ∷ body) _
     (rules.further_declaration (token.Syntax ∷ token.Name (codes "E") ∷ token.Equals ∷ body) [] _ []
-    (rules.without_parameters token.Syntax kind.Syntax (codes "E") body [] levels rules.syntax reads_levels) rules.no_declaration)
+    (rules.without_parameters token.Syntax kind.Syntax (codes "E") body [] levels rules.syntax reads_levels) rules.no_declaration))
 
 -- tokens that are neither numbers nor brackets
 abbrev plain : Token → Bool

@@ -1,5 +1,5 @@
 -- The grammar is well scoped.
-use Rattle.std.proofs.Common.{◌≡◌, ℕ, zero, suc, List, [], ◌∷◌, Some, None, Contains, length, slice_get, refl, sym, ◌∙◌, ap, subst, arith}
+use Rattle.std.proofs.Common.{◌≡◌, ℕ, zero, suc, List, [], ◌∷◌, Some, None, true, false, Contains, length, slice_get, refl, sym, ◌∙◌, ap, subst, arith}
 use Rattle.std.specs.Prelude.{codes, count_by}
 use Rattle.std.proofs.lemmas.Option.{same_Some}
 use Rattle.ig_text.proofs.Lists.{none_in_nil}
@@ -7,7 +7,7 @@ use Rattle.ig_expr.specs.Expression.{Expression}
 use Rattle.ig_grammar.specs.Condition as condition
 use Rattle.ig_grammar.specs.Condition.{Condition, declaration_of, symbols_of, binds_name, SymbolMeets, AlternativeMeets, HeadMeets, StartMeets}
 use Rattle.ig_grammar.specs.Condition.{unknown_name, wrong_arity, unknown_variable, duplicate_label, duplicate_let, no_kind, guard_kind, argument_kind, align_not_list, offside_in_lexical, ignore_in_lexical, align_in_lexical, syntax_in_lexical}
-use Rattle.ig_grammar.specs.Condition.{too_many_variables, duplicate_name, duplicate_parameter, layout_not_plain, too_many_nonterminals, too_many_parameters, unknown_start, no_start, start_has_parameters}
+use Rattle.ig_grammar.specs.Condition.{too_many_variables, duplicate_name, duplicate_parameter, layout_not_plain, too_many_nonterminals, too_many_parameters, unknown_start, no_start, start_has_parameters, bad_tabs}
 use Rattle.ig_grammar.specs.Numbering.{alternatives}
 use Rattle.ig_grammar.specs.Symbol.{Symbol, Literal, OneOf, Call}
 use Rattle.ig_grammar.specs.Visible.{Visible, Occurrence}
@@ -117,6 +117,7 @@ start_well c (unknown_start name is none) =
 start_well c (no_start none) = cc
 start_well c (start_has_parameters name decl is found differ) =
     differ (ap (λ (d : Decl). d.params) (sym (called name decl (sym (same_Some (codes "E") name is)) found)))
+start_well c (bad_tabs bad) = let no : false ≡ true = bad in cc
 
 only : (k : ℕ) (decl : Decl) → slice_get (expressions ∷ []) k ≡ Some decl → (k ≡ 0) × (decl ≡ expressions)
 only zero decl e = (refl, sym (same_Some expressions decl e))

@@ -1,6 +1,7 @@
 -- What the forest of the permitted trees says of them.
-use Rattle.std.proofs.Common.{◌≡◌, ◌↔◌, ℕ, List, IsTrue, length, sym, ◌∙◌, subst, Ok}
+use Rattle.std.proofs.Common.{◌≡◌, ◌↔◌, ℕ, IsTrue, length, sym, ◌∙◌, subst, Ok}
 use Rattle.std.proofs.lemmas.List.{length-map}
+use Rattle.ig_text.specs.Input.{Input, untabbed}
 use Rattle.ig_grammar.specs.Checked.{CheckedGrammar}
 use Rattle.ig_item.specs.Tables.{Tables, item_of, items_of}
 use Rattle.ig_item.specs.WellKinded.{NoneTwice}
@@ -17,7 +18,7 @@ use Rattle.ig_load.specs.Input.{LoadInput}
 use Rattle.ig_load.specs.Summary.{IsSummaryOf, Loads}
 use Rattle.ig_load.specs.declared.summary.Summary.{Summary}
 
-module _ (c : CheckedGrammar) (text : List ℕ) (f : Forest) (is : IsForestOf c text f) where
+module _ (c : CheckedGrammar) (text : Input) (f : Forest) (is : IsForestOf c text f) where
   pub summary_is : (tables : Tables) (heights : Heights) (summary : Summary) → AreReachable c text tables → NoneTwice (items_of tables) →
       IsTrim f → AmbiguityIsTwoPermitted → CyclicIsWithoutHighest → AreHeights f heights → summary.items ≡ length tables.items →
       summary.nodes ≡ length f.nodes → (IsTrue summary.ambiguous ↔ IsAmbiguous f) → summary.cyclic ≡ heights.cyclic →
@@ -38,17 +39,17 @@ module _ (c : CheckedGrammar) (text : List ℕ) (f : Forest) (is : IsForestOf c 
       }
 
 -- the grammar and the input of a load
-module _ (size number budget : ℕ) (c : CheckedGrammar) (text : List ℕ) (of_grammar : c ≡ unchanged LoadGrammar)
-    (of_input : text ≡ LoadInput size number) where
+module _ (size number budget : ℕ) (c : CheckedGrammar) (text : Input) (of_grammar : c ≡ unchanged LoadGrammar)
+    (of_input : text ≡ untabbed (LoadInput size number)) where
   -- what holds of the load's own grammar and input holds of them
-  carried : (P : CheckedGrammar → List ℕ → Type 0) → P (unchanged LoadGrammar) (LoadInput size number) → P c text
+  carried : (P : CheckedGrammar → Input → Type 0) → P (unchanged LoadGrammar) (untabbed (LoadInput size number)) → P c text
   carried P h =
-      subst (λ (z : CheckedGrammar). P z text) (sym of_grammar) (subst (λ (z : List ℕ). P (unchanged LoadGrammar) z) (sym of_input) h)
+      subst (λ (z : CheckedGrammar). P z text) (sym of_grammar) (subst (λ (z : Input). P (unchanged LoadGrammar) z) (sym of_input) h)
 
-  brought : (P : CheckedGrammar → List ℕ → Type 0) → P c text → P (unchanged LoadGrammar) (LoadInput size number)
-  brought P h = subst (λ (z : CheckedGrammar). P z (LoadInput size number)) of_grammar (subst (λ (z : List ℕ). P c z) of_input h)
+  brought : (P : CheckedGrammar → Input → Type 0) → P c text → P (unchanged LoadGrammar) (untabbed (LoadInput size number))
+  brought P h = subst (λ (z : CheckedGrammar). P z (untabbed (LoadInput size number))) of_grammar (subst (λ (z : Input). P c z) of_input h)
 
-  pub parsed : IsParsed (unchanged LoadGrammar) (LoadInput size number) → IsParsed c text
+  pub parsed : IsParsed (unchanged LoadGrammar) (untabbed (LoadInput size number)) → IsParsed c text
   parsed h = carried IsParsed h
 
   pub loaded : (summary : Summary) → (IsOver c text budget → ⊥) → IsSummaryOf c text summary → Loads size number budget (Ok summary)

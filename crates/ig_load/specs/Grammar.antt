@@ -1,5 +1,5 @@
 -- The grammar of a load.
-use Rattle.std.specs.Prelude.{ℕ, List, [], ◌∷◌, Some, codes, false}
+use Rattle.std.specs.Prelude.{ℕ, List, [], ◌∷◌, Some, codes, false, None}
 use Rattle.ig_text.specs.declared.class.Class.TheVariants.{Ranges}
 use Rattle.ig_grammar.specs.Symbol.{Symbol, OneOf, Literal, Call}
 use Rattle.ig_grammar.specs.declared.symbol.Alt.{Alt}
@@ -35,4 +35,4 @@ expressions = record { kind = Syntax; name = codes "E"; params = []; levels = le
 
 -- the grammar that the text reads as
 unfoldable pub LoadGrammar : Grammar
-LoadGrammar = record { start = Some (codes "E"); decls = expressions ∷ [] }
+LoadGrammar = record { start = Some (codes "E"); tabs = None; decls = expressions ∷ [] }

@@ -1,5 +1,6 @@
 -- What holds of loads.
 use Rattle.std.specs.Prelude.{ℕ, ◌<◌, List, All, IsUtf8}
+use Rattle.ig_text.specs.Input.{untabbed}
 use Rattle.ig_grammar.specs.WellScoped.{IsWellScoped}
 use Rattle.ig_notation.specs.Outcome.{IsRead}
 use Rattle.ig_core.specs.Notation.{unchanged}
@@ -17,8 +18,8 @@ pub record LoadTextReads : Type 0 where
 -- the grammar permits a tree for each chain of letters and operators
 abbrev pub ChainsArePermitted : Type 0
 ChainsArePermitted =
-    (first : ℕ) (steps : List Step) → first < letters → All HasLetter steps → IsParsed (unchanged LoadGrammar) (chain first steps)
+    (first : ℕ) (steps : List Step) → first < letters → All HasLetter steps → IsParsed (unchanged LoadGrammar) (untabbed (chain first steps))
 
 -- and so for each input of a load
 abbrev pub LoadInputsArePermitted : Type 0
-LoadInputsArePermitted = (size number : ℕ) → IsParsed (unchanged LoadGrammar) (LoadInput size number)
+LoadInputsArePermitted = (size number : ℕ) → IsParsed (unchanged LoadGrammar) (untabbed (LoadInput size number))

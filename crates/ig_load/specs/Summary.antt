@@ -1,5 +1,6 @@
 -- What a load says: how many items and nodes there are, and whether the forest is ambiguous or cyclic.
 use Rattle.std.specs.Prelude.{◌≡◌, ◌↔◌, ℕ, List, length, Contains, IsTrue, Result, Ok, Err}
+use Rattle.ig_text.specs.Input.{Input, untabbed}
 use Rattle.ig_grammar.specs.Checked.{CheckedGrammar}
 use Rattle.ig_item.specs.Items.{Item, Reachable}
 use Rattle.ig_item.specs.WellKinded.{NoneTwice}
@@ -14,7 +15,7 @@ use Rattle.ig_load.specs.Grammar.{LoadGrammar}
 use Rattle.ig_load.specs.Input.{LoadInput}
 use Rattle.ig_load.specs.declared.summary.Summary.{Summary}
 
-module _ (c : CheckedGrammar) (text : List ℕ) where
+module _ (c : CheckedGrammar) (text : Input) where
   -- so many items are reachable
   pub record HasItems (count : ℕ) : Type 0 where
     pub items : List Item
@@ -37,12 +38,12 @@ module _ (c : CheckedGrammar) (text : List ℕ) where
 
 -- what is said of the load of this size and number
 abbrev pub IsLoadSummary : ℕ → ℕ → Summary → Type 0
-IsLoadSummary size number summary = IsSummaryOf (unchanged LoadGrammar) (LoadInput size number) summary
+IsLoadSummary size number summary = IsSummaryOf (unchanged LoadGrammar) (untabbed (LoadInput size number)) summary
 
 module _ (size number budget : ℕ) where
   -- more items are reachable than the budget allows
   abbrev pub IsTooLarge : Type 0
-  IsTooLarge = IsOver (unchanged LoadGrammar) (LoadInput size number) budget
+  IsTooLarge = IsOver (unchanged LoadGrammar) (untabbed (LoadInput size number)) budget
 
   -- what a load of this size and number says; want of memory may come at any time
   abbrev pub Loads : Result Summary RunFault → Type 0

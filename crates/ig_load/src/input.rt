@@ -1,5 +1,6 @@
 //! The input of a load.
 ghost use Rattle.std.specs.Prelude.{◌≡◌, ◌≤◌, IfOk};
+ghost use Rattle.ig_text.specs.Input.{untabbed};
 ghost use Rattle.ig_load.specs.Operators.{letter, sign};
 ghost use Rattle.ig_load.specs.Input.{LoadInput, drawn, next_state};
 ghost use Rattle.ig_load.specs.Input.{operand_at, operator_at};
@@ -26,7 +27,7 @@ const OPERATORS: u64 = 4;
 /// of memory.
 pub fn load_input(alloc: Global, size: u32, number: u64) -> Result<Text, AllocError>
     requires { size ≤ MOST_OPERANDS }
-    ensures { IfOk result (λ text. text ≡ LoadInput size number) }
+    ensures { IfOk result (λ text. text ≡ untabbed (LoadInput size number)) }
 {
     let bytes = bytes_of(alloc, size, number)?;
     match Text::decode(alloc, bytes.as_slice()) {

@@ -1,5 +1,6 @@
 -- Each derivation has its trees with the values that its alternatives bind.
 use Rattle.std.proofs.Common.{◌≡◌, ℕ, List, [], ◌∷◌, ◌++◌, length, refl, sym, ◌∙◌, ap, subst}
+use Rattle.ig_text.specs.Input.{Input}
 use Rattle.ig_text.specs.declared.tag.Tag.{Tag}
 use Rattle.ig_text.specs.declared.tag.Tag.TheVariants as tag
 use Rattle.ig_text.specs.Tree as plain
@@ -24,7 +25,7 @@ pub bare_join : (ts us : Trees) → bare_trees (join ts us) ≡ plain.join (bare
 bare_join none us = refl
 bare_join (more t ts) us = ap (plain.more (bare_tree t)) (bare_join ts us)
 
-module _ (g : Grammar) (shapes : List Shape) (text : List ℕ) where
+module _ (g : Grammar) (shapes : List Shape) (text : Input) where
   -- trees of symbols, with values
   record AnnotatedAll (c : DeclKind) (xs : List Symbol) (env : Environment) (i j : ℕ) (ts : plain.Trees) (after : Environment) : Type 0 where
     trees : Trees
@@ -203,7 +204,7 @@ module _ (g : Grammar) (shapes : List Shape) (text : List ℕ) where
   permitted_annotated : {t : plain.Tree} → Permitted g shapes text t → (u : Tree) × Annotates g shapes text t u
   permitted_annotated p =
       let q = all_annotated p.covered in
-      let u : Tree = Node tag.Root (bound_between [] p.after) 0 (length text) q.trees in (
+      let u : Tree = Node tag.Root (bound_between [] p.after) 0 (length text.characters) q.trees in (
         u,
         record {
           kind = p.kind;
@@ -213,7 +214,7 @@ module _ (g : Grammar) (shapes : List Shape) (text : List ℕ) where
           root = p.root;
           binds = q.binds;
           whole = refl;
-          same = ap (plain.Node tag.Root 0 (length text)) q.same ∙ sym p.whole;
+          same = ap (plain.Node tag.Root 0 (length text.characters)) q.same ∙ sym p.whole;
         },
       )
 

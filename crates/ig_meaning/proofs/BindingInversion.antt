@@ -1,6 +1,7 @@
 -- What the trees with values of each form of symbol are.
 use Rattle.std.proofs.Common.{◌≡◌, ℕ, List, [], ◌∷◌, ◌++◌, map, refl, sym, ◌∙◌, ap, subst, inl, inr, Some, None}
 use Rattle.std.specs.Prelude.{◌⊎◌}
+use Rattle.ig_text.specs.Input.{Input}
 use Rattle.ig_text.specs.declared.tag.Tag.{Tag}
 use Rattle.ig_text.specs.declared.tag.Tag.TheVariants as tag
 use Rattle.ig_expr.specs.declared.value.Value.{Value}
@@ -83,7 +84,7 @@ pub parts_once : {x : Symbol} {form other : Tag} {ps qs : List Symbol} → HasPa
 parts_once {x = x} {form = form} {ps = ps} {qs = qs} p q same =
     parts_agree x form ps qs (parts_by p) (parts_by (subst (λ z. HasParts x z qs) (sym same) q))
 
-module _ (g : Grammar) (shapes : List Shape) (text : List ℕ) where
+module _ (g : Grammar) (shapes : List Shape) (text : Input) where
   abbrev pub BindBy : DeclKind → List Symbol → Environment → ℕ → ℕ → Trees → Environment → Type 0
   BindBy c [] env i j vs after = (i ≡ j) × (vs ≡ none) × (after ≡ env)
   BindBy c (x ∷ others) env i j vs after =

@@ -3,6 +3,7 @@ use Rattle.std.proofs.Common.{◌≡◌, ℕ, List, [], ◌∷◌, ◌++◌, len
 use Rattle.std.specs.List.{flat_map}
 use Rattle.std.proofs.lemmas.List.{map-append, length-map}
 use Rattle.std.proofs.Math.Seq.{drop-append_seam}
+use Rattle.ig_text.specs.Input.{Input}
 use Rattle.ig_text.specs.declared.tag.Tag.{Tag}
 use Rattle.ig_expr.specs.declared.value.Value.{Value}
 use Rattle.ig_grammar.specs.Symbol.{Symbol}
@@ -54,7 +55,7 @@ behind x xs env after some bound p q valued =
       valued = valued ∙ (λ k. added (bound_names x) env after p k ++ q.valued k) ∙ sym (map-append (λ pair. pair.1) p.more q.added);
     }
 
-module _ (g : Grammar) (shapes : List Shape) (text : List ℕ) where
+module _ (g : Grammar) (shapes : List Shape) (text : Input) where
   mutual
     bind_grows : {c : DeclKind} {xs : List Symbol} {env after : Environment} {i j : ℕ} {ts : Trees} →
         Bind g shapes text c xs env i j ts after → GrowsBy (flat_map bound_names xs) env after

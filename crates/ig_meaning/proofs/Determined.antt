@@ -1,6 +1,7 @@
 -- A tree has one annotation: what symbols cover, leave and bind is determined by where they begin and by their trees.
 use Rattle.std.proofs.Common.{◌≡◌, ℕ, List, [], ◌∷◌, ◌++◌, map, refl, sym, ◌∙◌, ap, subst, inl, inr, Option, Some, None}
 use Rattle.std.proofs.lemmas.Option.{same_Some}
+use Rattle.ig_text.specs.Input.{Input}
 use Rattle.ig_text.specs.declared.tag.Tag.{Tag}
 use Rattle.ig_text.specs.Tree as plain
 use Rattle.ig_text.specs.TagNumber.{number_of}
@@ -31,7 +32,7 @@ abbrev with_first : Option Value → Option (List Value) → Option (List Value)
 with_first (Some v) (Some vs) = Some (v ∷ vs)
 with_first v vs = None
 
-module _ (text : List ℕ) (env : Environment) (here : ℕ) where
+module _ (text : Input) (env : Environment) (here : ℕ) where
   abbrev values_at : List Expression → Option (List Value)
   values_at [] = Some []
   values_at (e ∷ es) = with_first (value_of text (names env) (values env) here e) (values_at es)
@@ -87,7 +88,7 @@ AreOneBehind j k ts us rest others = (j ≡ k) × (ts ≡ us) × (rest ≡ other
 abbrev pub AreOne : ℕ → ℕ → ℕ → ℕ → Environment → Environment → Trees → Trees → plain.Trees → plain.Trees → Type 0
 AreOne e f j k after later ts us rest others = (e ≡ f) × (j ≡ k) × (after ≡ later) × (ts ≡ us) × (rest ≡ others)
 
-module _ (g : Grammar) (shapes : List Shape) (text : List ℕ) (distinct : declared_names.AreDistinct (declared_names.names g.decls)) (tells : TagsTellAlternatives g shapes) where
+module _ (g : Grammar) (shapes : List Shape) (text : Input) (distinct : declared_names.AreDistinct (declared_names.names g.decls)) (tells : TagsTellAlternatives g shapes) where
   -- what each further annotation of the same trees is, whatever stands behind them
   abbrev pub BindOnce : DeclKind → List Symbol → Environment → ℕ → ℕ → Trees → Environment → Type 0
   BindOnce c xs env i j ts after =

@@ -5,6 +5,7 @@ use Rattle.std.proofs.lemmas.Option.{same_Some}
 use Rattle.std.specs.declared.cmp.Ordering.TheVariants.{Equal}
 use Rattle.std.specs.Ordering.{ordering_then, nat_cmp}
 use Rattle.std.specs.Cmp.Lexicographic.{slice_cmp}
+use Rattle.ig_text.specs.Input.{Input}
 use Rattle.ig_text.specs.declared.tag.Tag.TheVariants.{Root}
 use Rattle.ig_text.specs.Tree as plain
 use Rattle.ig_expr.specs.declared.value.Value.{Value}
@@ -64,7 +65,7 @@ close_children : (ts us : Trees) → children_cmp ts us ≡ Equal → AllClose (
 close_children ts us e =
     let parts = equal_parts (starts_cmp ts us) (trees_cmp ts us) e in close_trees ts us parts.0 parts.1
 
-module _ (g : Grammar) (shapes : List Shape) (text : List ℕ) (distinct : AreDistinct (names g.decls)) (tells : TagsTellAlternatives g shapes) where
+module _ (g : Grammar) (shapes : List Shape) (text : Input) (distinct : AreDistinct (names g.decls)) (tells : TagsTellAlternatives g shapes) where
   abbrev pub AreOneRoot : DeclKind → DeclKind → List Symbol → List Symbol → Type 0
   AreOneRoot kind other xs ys = (kind ≡ other) × (xs ≡ ys)
 
@@ -127,25 +128,25 @@ module _ (g : Grammar) (shapes : List Shape) (text : List ℕ) (distinct : AreDi
 
   permitted_equal : (t u : plain.Tree) → Permitted g shapes text t → Permitted g shapes text u → AreClose t u → t ≡ u
   permitted_equal t u p q same =
-      let close : AreClose (plain.Node Root 0 (length text) p.children) (plain.Node Root 0 (length text) q.children) =
-      subst (AreClose (plain.Node Root 0 (length text) p.children)) q.whole (subst (λ z. AreClose z u) p.whole same) in
+      let close : AreClose (plain.Node Root 0 (length text.characters) p.children) (plain.Node Root 0 (length text.characters) q.children) =
+      subst (AreClose (plain.Node Root 0 (length text.characters) p.children)) q.whole (subst (λ z. AreClose z u) p.whole same) in
       let root = one_root p.root q.root in
-      let second = subst (λ xs. Covers g shapes text p.kind xs [] 0 (length text) q.children q.after q.starts) (sym root.1) (subst (λ c. Covers g shapes text c q.symbols [] 0 (length text) q.children q.after q.starts) (sym root.0) q.covered) in
-      let told = covers_told g shapes text distinct tells p.covered [] q.after 0 (length text) q.children q.starts second in
+      let second = subst (λ xs. Covers g shapes text p.kind xs [] 0 (length text.characters) q.children q.after q.starts) (sym root.1) (subst (λ c. Covers g shapes text c q.symbols [] 0 (length text.characters) q.children q.after q.starts) (sym root.0) q.covered) in
+      let told = covers_told g shapes text distinct tells p.covered [] q.after 0 (length text.characters) q.children q.starts second in
       let tags : AllSameTags p.children q.children = told_whole p.children q.children told close.1 in
       let children : p.children ≡ q.children =
-      same_trees p.children q.children 0 (length text) (covers_tiles g shapes text p.covered) (covers_tiles g shapes text q.covered) close.1 tags in
-      p.whole ∙ ap (plain.Node Root 0 (length text)) children ∙ sym q.whole
+      same_trees p.children q.children 0 (length text.characters) (covers_tiles g shapes text p.covered) (covers_tiles g shapes text q.covered) close.1 tags in
+      p.whole ∙ ap (plain.Node Root 0 (length text.characters)) children ∙ sym q.whole
 
   determined : {t : plain.Tree} {u v : Tree} → Annotates g shapes text t u → Annotates g shapes text t v → u ≡ v
   determined p q =
-      let both : plain.Node Root 0 (length text) (bare_trees p.children) ≡ plain.Node Root 0 (length text) (bare_trees q.children) =
+      let both : plain.Node Root 0 (length text.characters) (bare_trees p.children) ≡ plain.Node Root 0 (length text.characters) (bare_trees q.children) =
       sym (ap bare_tree p.whole) ∙ p.same ∙ sym q.same ∙ ap bare_tree q.whole in
       let children : bare_trees p.children ≡ bare_trees q.children = cc in
       let root = one_root p.root q.root in
-      let second = subst (λ xs. Bind g shapes text p.kind xs [] 0 (length text) q.children q.after) (sym root.1) (subst (λ c. Bind g shapes text c q.symbols [] 0 (length text) q.children q.after) (sym root.0) q.binds) in
+      let second = subst (λ xs. Bind g shapes text p.kind xs [] 0 (length text.characters) q.children q.after) (sym root.1) (subst (λ c. Bind g shapes text c q.symbols [] 0 (length text.characters) q.children q.after) (sym root.0) q.binds) in
       let r = bind_determined p.binds second children in
-      p.whole ∙ (λ z. Node Root (bound_between [] (r.1 z)) 0 (length text) (r.2 z)) ∙ sym q.whole
+      p.whole ∙ (λ z. Node Root (bound_between [] (r.1 z)) 0 (length text.characters) (r.2 z)) ∙ sym q.whole
 
 pub undiffering : UndifferingTreesAreEqual
 undiffering g shapes text distinct fit =

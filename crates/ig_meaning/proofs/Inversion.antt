@@ -1,5 +1,6 @@
 -- Each derivation is by a rule for its symbol.
 use Rattle.std.proofs.Common.{ℕ, List, refl, inl, inr}
+use Rattle.ig_text.specs.Input.{Input}
 use Rattle.ig_text.specs.declared.tag.Tag.TheVariants as tag
 use Rattle.ig_text.specs.Tree.{Tree, Trees, Node, none, more, one}
 use Rattle.ig_expr.specs.declared.value.Value.{Value}
@@ -13,7 +14,7 @@ use Rattle.ig_grammar.specs.declared.grammar.Grammar.{Grammar}
 use Rattle.ig_grammar.specs.declared.place.Shape.{Shape}
 use Rattle.ig_meaning.specs.Inversion.{CoversBy, DerivesBy, ListsBy, ItemsBy, InstanceBy, TrailsBy, DerivationsInvert}
 
-module _ (g : Grammar) (shapes : List Shape) (text : List ℕ) where
+module _ (g : Grammar) (shapes : List Shape) (text : Input) where
   pub covers_by : {c : DeclKind} {xs : List Symbol} {env after : Environment} {i j : ℕ} {vs : Trees} {starts : List ℕ} →
       Covers g shapes text c xs env i j vs after starts → CoversBy g shapes text c xs env i j vs after starts
   covers_by (empty c env i) = (refl, refl, refl, refl)

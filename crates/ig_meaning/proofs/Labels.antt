@@ -1,5 +1,6 @@
 -- The first tree of a symbol that may have a label has the symbol's own span.
 use Rattle.std.proofs.Common.{◌≡◌, ℕ, List, [], ◌∷◌, ◌++◌, refl, sym, ◌∙◌, ap}
+use Rattle.ig_text.specs.Input.{Input}
 use Rattle.ig_text.specs.Tree.{Tree, Trees, Leaf, Node, none, more, one}
 use Rattle.ig_text.specs.declared.tag.Tag.TheVariants as tag
 use Rattle.ig_expr.specs.declared.value.Value.{Value}
@@ -33,7 +34,7 @@ HasSpan i j t = (begin_of t ≡ i) × (end_of t ≡ j)
 alone : (i j : ℕ) (t : Tree) → HasSpan i j t → BeginsWith i j (one t)
 alone i j t span = record { first = t; others = none; split = refl; begin = span.0; end = span.1 }
 
-module _ (g : Grammar) (shapes : List Shape) (text : List ℕ) where
+module _ (g : Grammar) (shapes : List Shape) (text : Input) where
   of_list : {c : DeclKind} {x : Symbol} {env : Environment} {i j : ℕ} {t : Tree} {starts items : List ℕ} →
       Lists g shapes text c x env i j t starts items → HasSpan i j t
   of_list (nil c x env i) = (refl, refl)

@@ -4,6 +4,7 @@ use Rattle.std.specs.Prelude.{◌⊎◌}
 use Rattle.std.specs.declared.cmp.Ordering.{Ordering}
 use Rattle.std.specs.declared.cmp.Ordering.TheVariants.{Less, Equal, Greater}
 use Rattle.std.specs.Ordering.{ordering_reverse}
+use Rattle.ig_text.specs.Input.{Input}
 use Rattle.ig_text.specs.Tree as plain
 use Rattle.ig_meaning.specs.Permitted.{Permitted}
 use Rattle.ig_expr.specs.ValuedTree.{Tree}
@@ -19,7 +20,7 @@ use Rattle.ig_meaning.proofs.Equality.{undiffering, unique}
 less_than_equal : Less ≡ Equal → ⊥
 less_than_equal e = cc
 
-module _ (order : IsAnOrder) (g : Grammar) (shapes : List Shape) (text : List ℕ) (once : AreUnique g shapes text) (apart : AreToldApart g shapes text) where
+module _ (order : IsAnOrder) (g : Grammar) (shapes : List Shape) (text : Input) (once : AreUnique g shapes text) (apart : AreToldApart g shapes text) where
   never : (t : plain.Tree) → Precedes g shapes text t t → ⊥
   never t p =
       let alike : p.one ≡ p.other = once.annotates p.of_first p.of_second in

@@ -1,6 +1,7 @@
 -- What a derivation covers is in order, and stays within the text.
 use Rattle.std.proofs.Common.{◌≡◌, ℕ, ◌+◌, ◌<◌, List, length, arith}
 use Rattle.std.proofs.lemmas.Option.{slice_get_within}
+use Rattle.ig_text.specs.Input.{Input}
 use Rattle.ig_text.specs.Tree.{Tree, Trees}
 use Rattle.ig_text.specs.Place.{Spells}
 use Rattle.ig_text.specs.Pattern.{IsOneOf}
@@ -29,28 +30,28 @@ joined n i e h j a b =
 trailed : (n i e j : ℕ) → IsInOrder n i e e → IsInOrder n e j j → IsInOrder n i e j
 trailed n i e j a b = record { begins = a.begins; ends = b.begins; within = λ l. b.within (a.within l) }
 
-spelled : (text word : List ℕ) (i e : ℕ) → Spells text word i e → IsInOrder (length text) i e e
+spelled : (text : Input) (word : List ℕ) (i e : ℕ) → Spells text word i e → IsInOrder (length text.characters) i e e
 spelled text word i e s = record { begins = s.onward; ends = omega arith; within = λ l. s.within }
 
-member : (text : List ℕ) (class : Class) (i e : ℕ) → IsOneOf text class i e → IsInOrder (length text) i e e
+member : (text : Input) (class : Class) (i e : ℕ) → IsOneOf text class i e → IsInOrder (length text.characters) i e e
 member text class i e m =
-    let here : i < length text = slice_get_within text i m.character m.there in
+    let here : i < length text.characters = slice_get_within text.characters i m.character m.there in
     let next : e ≡ i + 1 = m.next in
     record { begins = omega (arith, next); ends = omega arith; within = λ l. omega (arith, next, here) }
 
-module _ (g : Grammar) (shapes : List Shape) (text : List ℕ) where
+module _ (g : Grammar) (shapes : List Shape) (text : Input) where
   abbrev n : ℕ
-  n = length text
+  n = length text.characters
 
   mutual
     pub covers_in_order : {c : DeclKind} {xs : List Symbol} {env after : Environment} {i j : ℕ} {vs : Trees} {starts : List ℕ} →
-        Covers g shapes text c xs env i j vs after starts → IsInOrder (length text) i j j
+        Covers g shapes text c xs env i j vs after starts → IsInOrder (length text.characters) i j j
     covers_in_order (empty c env i) = still n i
     covers_in_order (symbol c x others env between after i e h j ts us vs ks ls starts first rest trees exposes) =
         joined n i e h j (derives_in_order first) (covers_in_order rest)
 
     pub derives_in_order : {c : DeclKind} {x : Symbol} {env after : Environment} {i e j : ℕ} {ts : Trees} {starts : List ℕ} →
-        Derives g shapes text c x env i e j ts after starts → IsInOrder (length text) i e j
+        Derives g shapes text c x env i e j ts after starts → IsInOrder (length text.characters) i e j
     derives_in_order (literal c word env i e j us ts starts spells trails trees exposes) =
         trailed n i e j (spelled text word i e spells) (trails_in_order trails)
     derives_in_order (one_of c class env i e j us ts starts among trails trees exposes) =
@@ -77,7 +78,7 @@ module _ (g : Grammar) (shapes : List Shape) (text : List ℕ) where
         whole n i e j (derives_in_order inner)
 
     pub lists_in_order : {c : DeclKind} {x : Symbol} {env : Environment} {i j : ℕ} {t : Tree} {starts items : List ℕ} →
-        Lists g shapes text c x env i j t starts items → IsInOrder (length text) i j j
+        Lists g shapes text c x env i j t starts items → IsInOrder (length text.characters) i j j
     lists_in_order (nil c x env i) = still n i
     lists_in_order (snoc c x env after i h e j t ts ks ls starts ps items list item exposes begins) =
         joined n i h h j (lists_in_order list) (whole n h e j (derives_in_order item))
@@ -91,16 +92,16 @@ module _ (g : Grammar) (shapes : List Shape) (text : List ℕ) where
     lists_in_order (some_items c x separator env i j t starts items list) = lists_in_order list
 
     pub items_in_order : {c : DeclKind} {x : Symbol} {env after : Environment} {i e j : ℕ} {ts : Trees} {starts items : List ℕ} →
-        Items g shapes text c x env i e j ts after starts items → IsInOrder (length text) i e j
+        Items g shapes text c x env i e j ts after starts items → IsInOrder (length text.characters) i e j
     items_in_order (bare c x env i j t starts items list) = lists_in_order list
     items_in_order (with_filters c x filters env after i e j ts starts items inner passes) = items_in_order inner
 
     pub instance_in_order : {name : List ℕ} {vs : List Value} {kind : DeclKind} {i e : ℕ} {t : Tree} {starts : List ℕ} →
-        Instance g shapes text name vs kind i e t starts → IsInOrder (length text) i e e
+        Instance g shapes text name vs kind i e t starts → IsInOrder (length text.characters) i e e
     instance_in_order (alternative name vs kind d k decl shape a env after i e ts t starts declares numbered bound same covers tree) =
         covers_in_order covers
 
-    pub trails_in_order : {c : DeclKind} {e j : ℕ} {ts : Trees} → Trails g shapes text c e j ts → IsInOrder (length text) e j j
+    pub trails_in_order : {c : DeclKind} {e j : ℕ} {ts : Trees} → Trails g shapes text c e j ts → IsInOrder (length text.characters) e j j
     trails_in_order (layout name kind e j t starts declared instance) = instance_in_order instance
     trails_in_order (no_layout e undeclared) = still n e
     trails_in_order (outside c e other) = still n e

@@ -3,6 +3,7 @@
 use Rattle.std.proofs.Common.{◌≡◌, ℕ, suc, List, [], refl, sym, ◌∙◌, ap, subst, arith, inl, inr, Some, None}
 use Rattle.std.specs.Prelude.{◌≢◌, slice_get, option_map}
 use Rattle.std.proofs.lemmas.Option.{slice_get-map, same_Some}
+use Rattle.ig_text.specs.Input.{Input}
 use Rattle.ig_text.specs.declared.tag.Tag.{Tag}
 use Rattle.ig_text.specs.declared.tag.Tag.TheVariants as tag
 use Rattle.ig_text.specs.Tree.{Tree, Trees, Leaf, Node, none, more, one, join}
@@ -91,7 +92,7 @@ choice_once choices k xs ys p q =
     let places : p.0 ≡ q.0 = let both : suc p.0 ≡ suc q.0 = sym p.1 ∙ q.1 in omega (arith, both) in
     same_Some xs ys (sym p.2 ∙ ap (choice choices) places ∙ q.2)
 
-module _ (g : Grammar) (shapes : List Shape) (text : List ℕ) (distinct : AreDistinct (names g.decls)) (tells : TagsTellAlternatives g shapes) where
+module _ (g : Grammar) (shapes : List Shape) (text : Input) (distinct : AreDistinct (names g.decls)) (tells : TagsTellAlternatives g shapes) where
   pub record AreOne (d e : ℕ) (decl other : Decl) (shape form : Shape) : Type 0 where
     pub number : d ≡ e
     pub declaration : decl ≡ other

@@ -1,6 +1,7 @@
 -- The trees of a derivation stand side by side, and so do the children of each node: where all begin at the same
 -- positions, and all have the same tags, they are equal.
 use Rattle.std.proofs.Common.{◌≡◌, ℕ, List, refl, sym, ◌∙◌, subst}
+use Rattle.ig_text.specs.Input.{Input}
 use Rattle.ig_text.specs.Tree.{Tree, Trees, Leaf, Node, none, more, one, join}
 use Rattle.ig_expr.specs.declared.value.Value.{Value}
 use Rattle.ig_grammar.specs.Symbol.{Symbol}
@@ -92,7 +93,7 @@ tile_before t us i e j a b = (a.0, a.2, subst (λ z. AreTiles us z j) (sym a.1) 
 tile_alone : (t : Tree) (i j : ℕ) → Tiles t i j → AreTiles (one t) i j
 tile_alone t i j a = (a.0, a.2, a.1)
 
-module _ (g : Grammar) (shapes : List Shape) (text : List ℕ) where
+module _ (g : Grammar) (shapes : List Shape) (text : Input) where
   mutual
     pub covers_tiles : {c : DeclKind} {xs : List Symbol} {env after : Environment} {i j : ℕ} {vs : Trees} {starts : List ℕ} →
         Covers g shapes text c xs env i j vs after starts → AreTiles vs i j

@@ -1,5 +1,6 @@
 -- The values that alternatives bind by labels and lets, and which tree with values a tree is.
 use Rattle.std.specs.Prelude.{◌≡◌, ℕ, List, [], ◌∷◌, ◌++◌, map, length, drop, Some, None}
+use Rattle.ig_text.specs.Input.{Input}
 use Rattle.ig_text.specs.declared.class.Class.{Class}
 use Rattle.ig_text.specs.declared.tag.Tag.{Tag}
 use Rattle.ig_text.specs.declared.tag.Tag.TheVariants as tag
@@ -49,7 +50,7 @@ pub data HasParts : Symbol → Tag → List Symbol → Type 0 where
       HasParts (Group choices) (tag.GroupAlt k) (Seq xs ∷ [])
 
 -- a grammar, with the shape of each of its declarations, and a text
-module _ (g : Grammar) (shapes : List Shape) (text : List ℕ) where
+module _ (g : Grammar) (shapes : List Shape) (text : Input) where
   mutual
     -- in a declaration of kind c these symbols, from an environment, have these trees from i to j, whose nodes have the
     -- values that are bound there, and leave an environment: each symbol starts from the one that those before it left
@@ -123,6 +124,6 @@ module _ (g : Grammar) (shapes : List Shape) (text : List ℕ) where
     pub children : Trees
     pub after : Environment
     pub root : IsRootAlternative g shapes kind symbols
-    pub binds : Bind kind symbols [] 0 (length text) children after
-    pub whole : u ≡ Node tag.Root (bound_between [] after) 0 (length text) children
+    pub binds : Bind kind symbols [] 0 (length text.characters) children after
+    pub whole : u ≡ Node tag.Root (bound_between [] after) 0 (length text.characters) children
     pub same : bare_tree u ≡ t

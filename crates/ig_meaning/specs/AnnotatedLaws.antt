@@ -1,6 +1,7 @@
 -- Each derivation binds values, its trees alone determine them, and they are one for each label and let.
 use Rattle.std.specs.Prelude.{◌≡◌, ℕ, List}
 use Rattle.std.specs.List.{flat_map}
+use Rattle.ig_text.specs.Input.{Input}
 use Rattle.ig_text.specs.Tree as plain
 use Rattle.ig_expr.specs.declared.value.Value.{Value}
 use Rattle.ig_grammar.specs.Names.{names, AreDistinct}
@@ -22,7 +23,7 @@ use Rattle.ig_grammar.specs.declared.place.Shape.{Shape}
 
 -- what is derived is so with values, by the same environments: there are trees that have them, which without them are
 -- the trees of the derivation
-pub record AreAnnotated (g : Grammar) (shapes : List Shape) (text : List ℕ) : Type 0 where
+pub record AreAnnotated (g : Grammar) (shapes : List Shape) (text : Input) : Type 0 where
   pub covers : {c : DeclKind} {xs : List Symbol} {env after : Environment} {i j : ℕ} {ts : plain.Trees} {starts : List ℕ} →
       Covers g shapes text c xs env i j ts after starts →
       (us : Trees) × Bind g shapes text c xs env i j us after × (bare_trees us ≡ ts)
@@ -35,11 +36,11 @@ pub record AreAnnotated (g : Grammar) (shapes : List Shape) (text : List ℕ) : 
   pub permitted : {t : plain.Tree} → Permitted g shapes text t → (u : Tree) × Annotates g shapes text t u
 
 abbrev pub DerivationsAreAnnotated : Type 0
-DerivationsAreAnnotated = (g : Grammar) (shapes : List Shape) (text : List ℕ) → AreAnnotated g shapes text
+DerivationsAreAnnotated = (g : Grammar) (shapes : List Shape) (text : Input) → AreAnnotated g shapes text
 
 -- trees have the same values, and symbols leave the same environment, whatever the derivation: what stands at one place
 -- in one environment, and is the same without values, is the same
-pub record AreUnique (g : Grammar) (shapes : List Shape) (text : List ℕ) : Type 0 where
+pub record AreUnique (g : Grammar) (shapes : List Shape) (text : Input) : Type 0 where
   pub bind : {c : DeclKind} {xs : List Symbol} {env after later : Environment} {i j k : ℕ} {ts us : Trees} →
       Bind g shapes text c xs env i j ts after → Bind g shapes text c xs env i k us later →
       bare_trees ts ≡ bare_trees us → (j ≡ k) × (after ≡ later) × (ts ≡ us)
@@ -54,7 +55,7 @@ pub record AreUnique (g : Grammar) (shapes : List Shape) (text : List ℕ) : Typ
 -- where no name is declared twice and each declaration is of its shape
 abbrev pub AnnotationsAreUnique : Type 0
 AnnotationsAreUnique =
-    (g : Grammar) (shapes : List Shape) (text : List ℕ) → AreDistinct (names g.decls) → FitShapes g shapes →
+    (g : Grammar) (shapes : List Shape) (text : Input) → AreDistinct (names g.decls) → FitShapes g shapes →
     AreUnique g shapes text
 
 -- the values are those of the names that the symbols bind, in this order
@@ -78,7 +79,7 @@ pub record HasValues (g : Grammar) (shapes : List Shape) (name : List ℕ) (i e 
   pub each : AreOf a.alternative.symbols bound
 
 -- each label and each let of an alternative, and of the parts of an option, a list or a group, has one value
-pub record AreComplete (g : Grammar) (shapes : List Shape) (text : List ℕ) : Type 0 where
+pub record AreComplete (g : Grammar) (shapes : List Shape) (text : Input) : Type 0 where
   pub bind : {c : DeclKind} {xs : List Symbol} {env after : Environment} {i j : ℕ} {ts : Trees} →
       Bind g shapes text c xs env i j ts after → GrowsBy (flat_map bound_names xs) env after
   pub apart : {c : DeclKind} {xs : List Symbol} {env : Environment} {i j : ℕ} {ts : Trees} {bound : List Value} →
@@ -87,4 +88,4 @@ pub record AreComplete (g : Grammar) (shapes : List Shape) (text : List ℕ) : T
       Within g shapes text name vs kind i e t → HasValues g shapes name i e t
 
 abbrev pub AnnotationsAreComplete : Type 0
-AnnotationsAreComplete = (g : Grammar) (shapes : List Shape) (text : List ℕ) → AreComplete g shapes text
+AnnotationsAreComplete = (g : Grammar) (shapes : List Shape) (text : Input) → AreComplete g shapes text

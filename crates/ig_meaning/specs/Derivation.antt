@@ -1,5 +1,6 @@
 -- What the symbols of a grammar cover in a text, and with which trees.
 use Rattle.std.specs.Prelude.{◌≡◌, ◌≢◌, ℕ, List, [], ◌∷◌, ◌++◌, map, Some, None, true}
+use Rattle.ig_text.specs.Input.{Input}
 use Rattle.ig_text.specs.declared.class.Class.{Class}
 use Rattle.ig_text.specs.declared.tag.Tag.TheVariants as tag
 use Rattle.ig_text.specs.Tree.{Tree, Trees, Leaf, Node, none, more, one, join}
@@ -32,7 +33,7 @@ abbrev pub span_value : ℕ → ℕ → Value
 span_value i e = value.Span (record { begin = i; end = e })
 
 -- a grammar, with the shape of each of its declarations, and a text
-module _ (g : Grammar) (shapes : List Shape) (text : List ℕ) where
+module _ (g : Grammar) (shapes : List Shape) (text : Input) where
   mutual
     -- in a declaration of this kind the symbols, from an environment, cover the text from i to j with these trees;
     -- they leave an environment, and expose these starts of tokens

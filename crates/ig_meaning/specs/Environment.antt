@@ -2,6 +2,7 @@
 use Rattle.std.specs.Prelude.{◌≡◌, ℕ, List, [], ◌∷◌, map, if◌then◌else◌, Some}
 use Rattle.ig_expr.specs.Expression.{Expression}
 use Rattle.ig_expr.specs.Evaluation.{value_of}
+use Rattle.ig_text.specs.Input.{Input}
 use Rattle.ig_text.specs.Words.{is_word}
 use Rattle.ig_expr.specs.declared.value.Value.{Value}
 use Rattle.ig_grammar.specs.Binding.{Binding}
@@ -18,11 +19,11 @@ abbrev pub values : Environment → List Value
 values env = map (λ pair. pair.1) env
 
 -- the expression has this value at the position
-abbrev pub HasValue : List ℕ → Environment → ℕ → Expression → Value → Type 0
+abbrev pub HasValue : Input → Environment → ℕ → Expression → Value → Type 0
 HasValue text env here e v = value_of text (names env) (values env) here e ≡ Some v
 
 -- each expression has its value at the position
-pub data HaveValues (text : List ℕ) (env : Environment) (here : ℕ) : List Expression → List Value → Type 0 where
+pub data HaveValues (text : Input) (env : Environment) (here : ℕ) : List Expression → List Value → Type 0 where
   no_values : HaveValues text env here [] []
   next_value : (e : Expression) (es : List Expression) (v : Value) (vs : List Value) →
       HasValue text env here e v → HaveValues text env here es vs → HaveValues text env here (e ∷ es) (v ∷ vs)

@@ -1,6 +1,7 @@
 -- What a derivation of each form of symbol consists of: the rules of derivations, read from what is derived.
 use Rattle.std.specs.Prelude.{◌≡◌, ℕ, List, [], ◌∷◌, ◌++◌, map}
 use Rattle.std.specs.Prelude.{◌≢◌, ◌⊎◌, Some, None, true}
+use Rattle.ig_text.specs.Input.{Input}
 use Rattle.ig_text.specs.declared.tag.Tag.TheVariants as tag
 use Rattle.ig_text.specs.Tree.{Tree, Trees, Leaf, Node, none, more, one, join}
 use Rattle.ig_text.specs.Place.{Spells}
@@ -20,7 +21,7 @@ use Rattle.ig_grammar.specs.declared.declaration.Decl.{Decl}
 use Rattle.ig_grammar.specs.declared.grammar.Grammar.{Grammar}
 use Rattle.ig_grammar.specs.declared.place.Shape.{Shape}
 
-module _ (g : Grammar) (shapes : List Shape) (text : List ℕ) where
+module _ (g : Grammar) (shapes : List Shape) (text : Input) where
   abbrev pub CoversBy : DeclKind → List Symbol → Environment → ℕ → ℕ → Trees → Environment → List ℕ → Type 0
   CoversBy c [] env i j vs after starts = (i ≡ j) × (vs ≡ none) × (after ≡ env) × (starts ≡ [])
   CoversBy c (x ∷ others) env i j vs after starts =
@@ -158,4 +159,4 @@ module _ (g : Grammar) (shapes : List Shape) (text : List ℕ) where
         Trails g shapes text c e j ts → TrailsBy c e j ts
 
 abbrev pub DerivationsInvert : Type 0
-DerivationsInvert = (g : Grammar) (shapes : List Shape) (text : List ℕ) → Inverts g shapes text
+DerivationsInvert = (g : Grammar) (shapes : List Shape) (text : Input) → Inverts g shapes text

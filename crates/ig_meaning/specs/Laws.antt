@@ -1,6 +1,7 @@
 -- What the definitions mean: laws of derivations and of permitted trees.
 use Rattle.std.specs.Prelude.{◌≡◌, ℕ, ◌≤◌, List, [], ◌∷◌, ◌++◌, Contains, length}
 use Rattle.std.specs.List.{flat_map}
+use Rattle.ig_text.specs.Input.{Input}
 use Rattle.ig_text.specs.declared.tag.Tag.{Tag}
 use Rattle.ig_text.specs.declared.tag.Tag.TheVariants.{Root}
 use Rattle.ig_text.specs.Tree.{Tree, Trees, Leaf, Node, more}
@@ -26,22 +27,22 @@ pub record IsInOrder (n i e j : ℕ) : Type 0 where
   pub within : i ≤ n → j ≤ n
 
 -- what derivations cover is in order, and what begins in the text ends in it; the own end of a symbol lies between its begin and its end
-pub record SpansInOrder (g : Grammar) (shapes : List Shape) (text : List ℕ) : Type 0 where
+pub record SpansInOrder (g : Grammar) (shapes : List Shape) (text : Input) : Type 0 where
   pub covers : {c : DeclKind} {xs : List Symbol} {env after : Environment} {i j : ℕ} {ts : Trees} {starts : List ℕ} →
-      Covers g shapes text c xs env i j ts after starts → IsInOrder (length text) i j j
+      Covers g shapes text c xs env i j ts after starts → IsInOrder (length text.characters) i j j
   pub derives : {c : DeclKind} {x : Symbol} {env after : Environment} {i e j : ℕ} {ts : Trees} {starts : List ℕ} →
-      Derives g shapes text c x env i e j ts after starts → IsInOrder (length text) i e j
+      Derives g shapes text c x env i e j ts after starts → IsInOrder (length text.characters) i e j
   pub lists : {c : DeclKind} {x : Symbol} {env : Environment} {i j : ℕ} {t : Tree} {starts items : List ℕ} →
-      Lists g shapes text c x env i j t starts items → IsInOrder (length text) i j j
+      Lists g shapes text c x env i j t starts items → IsInOrder (length text.characters) i j j
   pub items : {c : DeclKind} {x : Symbol} {env after : Environment} {i e j : ℕ} {ts : Trees} {starts positions : List ℕ} →
-      Items g shapes text c x env i e j ts after starts positions → IsInOrder (length text) i e j
+      Items g shapes text c x env i e j ts after starts positions → IsInOrder (length text.characters) i e j
   pub instance : {name : List ℕ} {vs : List Value} {kind : DeclKind} {i e : ℕ} {t : Tree} {starts : List ℕ} →
-      Instance g shapes text name vs kind i e t starts → IsInOrder (length text) i e e
+      Instance g shapes text name vs kind i e t starts → IsInOrder (length text.characters) i e e
   pub trails : {c : DeclKind} {e j : ℕ} {ts : Trees} →
-      Trails g shapes text c e j ts → IsInOrder (length text) e j j
+      Trails g shapes text c e j ts → IsInOrder (length text.characters) e j j
 
 abbrev pub SpansAreInOrder : Type 0
-SpansAreInOrder = (g : Grammar) (shapes : List Shape) (text : List ℕ) → SpansInOrder g shapes text
+SpansAreInOrder = (g : Grammar) (shapes : List Shape) (text : Input) → SpansInOrder g shapes text
 
 -- the second environment is the first with others at its end, which bind these names in this order
 pub record GrowsBy (added : List (List ℕ)) (before after : Environment) : Type 0 where
@@ -50,20 +51,20 @@ pub record GrowsBy (added : List (List ℕ)) (before after : Environment) : Type
   pub named : names more ≡ added
 
 -- what symbols leave is the environment in which they stand, with the names that they bind at its end
-pub record EnvironmentsGrowBy (g : Grammar) (shapes : List Shape) (text : List ℕ) : Type 0 where
+pub record EnvironmentsGrowBy (g : Grammar) (shapes : List Shape) (text : Input) : Type 0 where
   pub covers : {c : DeclKind} {xs : List Symbol} {env after : Environment} {i j : ℕ} {ts : Trees} {starts : List ℕ} →
       Covers g shapes text c xs env i j ts after starts → GrowsBy (flat_map bound_names xs) env after
   pub derives : {c : DeclKind} {x : Symbol} {env after : Environment} {i e j : ℕ} {ts : Trees} {starts : List ℕ} →
       Derives g shapes text c x env i e j ts after starts → GrowsBy (bound_names x) env after
 
 abbrev pub EnvironmentsGrow : Type 0
-EnvironmentsGrow = (g : Grammar) (shapes : List Shape) (text : List ℕ) → EnvironmentsGrowBy g shapes text
+EnvironmentsGrow = (g : Grammar) (shapes : List Shape) (text : Input) → EnvironmentsGrowBy g shapes text
 
 -- each permitted tree is a root over the whole text
 abbrev pub PermittedTreesAreWhole : Type 0
 PermittedTreesAreWhole =
-    (g : Grammar) (shapes : List Shape) (text : List ℕ) (tag : Tag) (i j : ℕ) (children : Trees) →
-    Permitted g shapes text (Node tag i j children) → (tag ≡ Root) × (i ≡ 0) × (j ≡ length text)
+    (g : Grammar) (shapes : List Shape) (text : Input) (tag : Tag) (i j : ℕ) (children : Trees) →
+    Permitted g shapes text (Node tag i j children) → (tag ≡ Root) × (i ≡ 0) × (j ≡ length text.characters)
 
 -- at most one level, which is neither `left` nor `right` nor `nonassoc`
 abbrev pub HasNoOperators : List Level → Type 0
@@ -97,6 +98,6 @@ pub record BindsFirstTree (name : List ℕ) (i e : ℕ) (ts : Trees) (after : En
 -- a label round a symbol that may have one binds the span of the symbol's first tree
 abbrev pub LabelsBindOwnSpans : Type 0
 LabelsBindOwnSpans =
-    (g : Grammar) (shapes : List Shape) (text : List ℕ) (c : DeclKind) (name : List ℕ) (x : Symbol) (env after : Environment)
+    (g : Grammar) (shapes : List Shape) (text : Input) (c : DeclKind) (name : List ℕ) (x : Symbol) (env after : Environment)
     (i e j : ℕ) (ts : Trees) (starts : List ℕ) → StandsWell (Label name x) →
     Derives g shapes text c (Label name x) env i e j ts after starts → BindsFirstTree name i e ts after

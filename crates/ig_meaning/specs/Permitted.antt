@@ -1,5 +1,6 @@
 -- Which trees a grammar permits for a whole text.
 use Rattle.std.specs.Prelude.{◌≡◌, ℕ, List, [], ◌∷◌, Option, Some, None, length}
+use Rattle.ig_text.specs.Input.{Input}
 use Rattle.ig_text.specs.declared.tag.Tag.TheVariants.{Root}
 use Rattle.ig_text.specs.Tree.{Tree, Trees, Node}
 use Rattle.ig_grammar.specs.Symbol.{Symbol, Call}
@@ -31,13 +32,13 @@ pub data IsRootAlternative (g : Grammar) (shapes : List Shape) : DeclKind → Li
       kind ≡ decl.kind → symbols ≡ a.alternative.symbols → IsRootAlternative g shapes kind symbols
 
 -- a permitted tree is a clean root over what the root alternative covers, the whole text
-pub record Permitted (g : Grammar) (shapes : List Shape) (text : List ℕ) (t : Tree) : Type 0 where
+pub record Permitted (g : Grammar) (shapes : List Shape) (text : Input) (t : Tree) : Type 0 where
   pub kind : DeclKind
   pub symbols : List Symbol
   pub children : Trees
   pub after : Environment
   pub starts : List ℕ
   pub root : IsRootAlternative g shapes kind symbols
-  pub covered : Covers g shapes text kind symbols [] 0 (length text) children after starts
-  pub whole : t ≡ Node Root 0 (length text) children
+  pub covered : Covers g shapes text kind symbols [] 0 (length text.characters) children after starts
+  pub whole : t ≡ Node Root 0 (length text.characters) children
   pub clean : Clean g t

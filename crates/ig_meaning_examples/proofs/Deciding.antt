@@ -4,6 +4,7 @@ use Rattle.std.specs.Prelude.{◌⊎◌, ◌&&◌, ◌||◌, ◌==◌, not, All,
 use Rattle.std.specs.Bool.{Decides}
 use Rattle.std.proofs.lemmas.Bool.Decides.{Decides-and, Decides-or, Decides-eqb, Decides-ltb, Decides-like, Decides-by_and, Decides-not}
 use Rattle.std.proofs.lemmas.List.Elements.{Contains-get_or, All-contains}
+use Rattle.ig_text.specs.Input.{Input}
 use Rattle.ig_text.specs.Lines.{column_of}
 use Rattle.ig_text.specs.Pattern.{Matches}
 use Rattle.ig_text.specs.declared.pattern.Pattern.{Pattern}
@@ -35,7 +36,7 @@ with_value_parts None b vs e = absurd (cc)
 with_value_parts (Some v) None vs e = absurd (cc)
 with_value_parts (Some v) (Some ws) vs e = (v, ws, refl, refl, cc)
 
-module _ (text : List ℕ) (env : Environment) (here : ℕ) where
+module _ (text : Input) (env : Environment) (here : ℕ) where
   -- the values of the expressions, where all have one
   abbrev pub values_at : List Expression → Option (List Value)
   values_at [] = Some []
@@ -81,15 +82,15 @@ truth_is (value.Int n) e = absurd (cc)
 truth_is (value.Span s) e = absurd (cc)
 
 -- where a match of the pattern that begins at i ends
-abbrev pub ends_of : List ℕ → Pattern → ℕ → List ℕ
+abbrev pub ends_of : Input → Pattern → ℕ → List ℕ
 ends_of text pattern i = given (matches_at text pattern i) (λ _. (i + width pattern) ∷ [])
 
-pub ends_match : (known : MatchesAreKnown) (text : List ℕ) (pattern : Pattern) (i : ℕ) → OfEach (Matches text pattern i) (ends_of text pattern i)
+pub ends_match : (known : MatchesAreKnown) (text : Input) (pattern : Pattern) (i : ℕ) → OfEach (Matches text pattern i) (ends_of text pattern i)
 ends_match known text pattern i = each_given (Matches text pattern i) (matches_at text pattern i) (λ _. (i + width pattern) ∷ []) (λ h.
     let m = (known.decided text pattern i).begins.0 h in
     (subst (Matches text pattern i) (known.width text pattern i m.0 m.1) m.1, tt))
 
-pub matches_end : (known : MatchesAreKnown) (text : List ℕ) (pattern : Pattern) (i e : ℕ) → Matches text pattern i e → IsAmong (ends_of text pattern i) e
+pub matches_end : (known : MatchesAreKnown) (text : Input) (pattern : Pattern) (i e : ℕ) → Matches text pattern i e → IsAmong (ends_of text pattern i) e
 matches_end known text pattern i e m =
     among_given (matches_at text pattern i) (λ _. (i + width pattern) ∷ []) e ((known.decided text pattern i).begins.1 (e, m)) (inl (sym (known.width text pattern i e m)))
 
@@ -98,12 +99,12 @@ abbrev pub all_pass : {A : Type 0} → (A → Bool) → List A → Bool
 all_pass test [] = true
 all_pass test (x ∷ xs) = test x && all_pass test xs
 
-abbrev pub passes : List ℕ → ℕ → ℕ → Filter → Bool
+abbrev pub passes : Input → ℕ → ℕ → Filter → Bool
 passes text i e (NotFollowed pattern) = not (matches_at text pattern e)
 passes text i e (NotPreceded pattern) = not (matches_before text pattern i)
 passes text i e (Not pattern) = not (matches_at text pattern i && (e == i + width pattern))
 
-covers_all : (known : MatchesAreKnown) (text : List ℕ) (pattern : Pattern) (i e : ℕ) →
+covers_all : (known : MatchesAreKnown) (text : Input) (pattern : Pattern) (i e : ℕ) →
     Decides (matches_at text pattern i && (e == i + width pattern)) (Matches text pattern i e)
 covers_all known text pattern i e =
     Decides-like (matches_at text pattern i && (e == i + width pattern))
@@ -111,16 +112,16 @@ covers_all known text pattern i e =
     (λ m. ((e, m), known.width text pattern i e m))
     (Decides-and (matches_at text pattern i) (e == i + width pattern) (known.decided text pattern i).begins (Decides-eqb e (i + width pattern)))
 
-passes_decides : (known : MatchesAreKnown) (text : List ℕ) (i e : ℕ) (f : Filter) → Decides (passes text i e f) (Passes text i e f)
+passes_decides : (known : MatchesAreKnown) (text : Input) (i e : ℕ) (f : Filter) → Decides (passes text i e f) (Passes text i e f)
 passes_decides known text i e (NotFollowed pattern) = (known.decided text pattern e).not_begins
 passes_decides known text i e (NotPreceded pattern) = (known.decided text pattern i).not_ends
 passes_decides known text i e (Not pattern) =
     Decides-not (matches_at text pattern i && (e == i + width pattern)) (covers_all known text pattern i e)
 
-abbrev pub passes_all : List ℕ → ℕ → ℕ → List Filter → Bool
+abbrev pub passes_all : Input → ℕ → ℕ → List Filter → Bool
 passes_all text i e filters = all_pass (passes text i e) filters
 
-pub passes_all_decides : (known : MatchesAreKnown) (text : List ℕ) (i e : ℕ) (filters : List Filter) →
+pub passes_all_decides : (known : MatchesAreKnown) (text : Input) (i e : ℕ) (filters : List Filter) →
     Decides (passes_all text i e filters) (PassesAll text i e filters)
 passes_all_decides known text i e filters =
     Decides-by_and (passes text i e) (Passes text i e) (all_pass (passes text i e)) (passes_decides known text i e) refl (λ _ _. refl) filters
@@ -135,20 +136,20 @@ of_contained test P each xs =
     (Decides-by_and test P (all_pass test) each refl (λ _ _. refl) xs)
 
 -- whether the position is i, or to the right of the column of i
-abbrev is_right : List ℕ → ℕ → ℕ → Bool
+abbrev is_right : Input → ℕ → ℕ → Bool
 is_right text i q = (q == i) || ltb (column_of text i) (column_of text q)
 
-abbrev pub are_right : List ℕ → ℕ → List ℕ → Bool
+abbrev pub are_right : Input → ℕ → List ℕ → Bool
 are_right text i starts = all_pass (is_right text i) starts
 
-pub are_right_decides : (text : List ℕ) (i : ℕ) (starts : List ℕ) → Decides (are_right text i starts) (IsOffside text i starts)
+pub are_right_decides : (text : Input) (i : ℕ) (starts : List ℕ) → Decides (are_right text i starts) (IsOffside text i starts)
 are_right_decides text i starts =
     of_contained (is_right text i) (λ q. (q ≡ i) ⊎ (column_of text i < column_of text q)) (λ q. Decides-or (q == i) (ltb (column_of text i) (column_of text q)) (Decides-eqb q i) (Decides-ltb (column_of text i) (column_of text q))) starts
 
-abbrev pub are_aligned : List ℕ → List ℕ → Bool
+abbrev pub are_aligned : Input → List ℕ → Bool
 are_aligned text items = all_pass (λ p. all_pass (λ q. column_of text p == column_of text q) items) items
 
-pub are_aligned_decides : (text items : List ℕ) → Decides (are_aligned text items) (AreAligned text items)
+pub are_aligned_decides : (text : Input) (items : List ℕ) → Decides (are_aligned text items) (AreAligned text items)
 are_aligned_decides text items =
     Decides-like (are_aligned text items) (λ h p q c d. h p c q d) (λ h p c q d. h p q c d)
     (of_contained (λ p. all_pass (λ q. column_of text p == column_of text q) items) (λ p. (q : ℕ) → Contains items q → column_of text p ≡ column_of text q) (λ p. of_contained (λ q. column_of text p == column_of text q) (λ q. column_of text p ≡ column_of text q) (λ q. Decides-eqb (column_of text p) (column_of text q)) items) items)

@@ -1,6 +1,7 @@
 -- All derivations up to a height of their trees, from a position of a text on: a computed list, for grammars that stand
 -- for no root of their own.
 use Rattle.std.specs.Prelude.{ℕ, zero, suc, List, [], ◌∷◌, ◌++◌, map, flat_map, length, Option, Some, None, slice_get, Bool, true, false}
+use Rattle.ig_text.specs.Input.{Input}
 use Rattle.ig_text.specs.declared.pattern.Pattern.{Pattern}
 use Rattle.ig_text.specs.declared.pattern.Pattern.TheVariants as pattern
 use Rattle.ig_text.specs.declared.tag.Tag.{Tag}
@@ -131,7 +132,7 @@ entered env o = record { own = o.end; end = o.end; trees = o.trees; after = env;
 abbrev pub joined : Outcome → Covering → Covering
 joined o r = record { end = r.end; trees = join o.trees r.trees; after = r.after; starts = o.starts ++ r.starts }
 
-module _ (g : Grammar) (shapes : List Shape) (text : List ℕ) (lower : Lower) where
+module _ (g : Grammar) (shapes : List Shape) (text : Input) (lower : Lower) where
   abbrev pub instanced : ℕ → ℕ → Decl → Shape → ℕ → Covering → Instanced
   instanced k j decl shape i r =
       record { kind = decl.kind; end = r.end; tree = Node (tag_of shape (suc k) (suc j)) i r.end r.trees; starts = r.starts }
@@ -219,7 +220,7 @@ module _ (g : Grammar) (shapes : List Shape) (text : List ℕ) (lower : Lower) w
     derived c (Entry bindings x) env i =
         from (values_at text env i (map (λ b. b.value) bindings)) (λ vs. map (entered env) (derived c x (replaced env bindings vs) i))
 
-module _ (g : Grammar) (shapes : List Shape) (text : List ℕ) where
+module _ (g : Grammar) (shapes : List Shape) (text : Input) where
   -- what is covered with trees lower than the height
   abbrev pub before : ℕ → Lower
   before zero = nothing

@@ -4,6 +4,7 @@ use Rattle.std.specs.Prelude.{slice_get, ◌≢◌}
 use Rattle.std.specs.Cmp.Lexicographic.{bytes_decides}
 use Rattle.std.proofs.lemmas.Option.{slice_get_within}
 use Rattle.std.proofs.Math.Nat.{suc_inj}
+use Rattle.ig_text.specs.Input.{Input}
 use Rattle.ig_text.specs.declared.pattern.Pattern.{Pattern}
 use Rattle.ig_text.specs.declared.pattern.Pattern.TheVariants as pattern
 use Rattle.ig_text.specs.declared.tag.Tag.TheVariants as tag
@@ -40,7 +41,7 @@ lowered : (P : ℕ → Type 0) (k n : ℕ) → k < n → ((m : ℕ) → k < suc 
 lowered P k zero low each = absurd (omega (arith, low))
 lowered P k (suc m) low each = each m low
 
-module _ (known : MatchesAreKnown) (g : Grammar) (shapes : List Shape) (text : List ℕ) where
+module _ (known : MatchesAreKnown) (g : Grammar) (shapes : List Shape) (text : Input) where
   abbrev outcome : ℕ → ℕ → Trees → Environment → List ℕ → Outcome
   outcome e j ts after starts = record { own = e; end = j; trees = ts; after = after; starts = starts }
 

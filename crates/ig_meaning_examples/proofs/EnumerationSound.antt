@@ -2,6 +2,7 @@
 use Rattle.std.proofs.Common.{◌≡◌, ◌∙◌, ℕ, zero, suc, ◌+◌, ◌<◌, List, [], ◌∷◌, ◌++◌, map, length, refl, ap, subst, arith, add-zero, Option, Some, None, true}
 use Rattle.std.specs.Prelude.{slice_get, ◌≢◌}
 use Rattle.std.specs.Cmp.Lexicographic.{bytes_decides}
+use Rattle.ig_text.specs.Input.{Input}
 use Rattle.ig_text.specs.declared.class.Class.{Class}
 use Rattle.ig_text.specs.declared.pattern.Pattern.TheVariants as pattern
 use Rattle.ig_text.specs.declared.tag.Tag.TheVariants as tag
@@ -52,7 +53,7 @@ layout_is_other h = cc
 plain_is_other : Plain ≢ Syntax
 plain_is_other h = cc
 
-module _ (g : Grammar) (shapes : List Shape) (text : List ℕ) where
+module _ (g : Grammar) (shapes : List Shape) (text : Input) where
   -- with trees lower than n
   abbrev pub IsCovering : ℕ → DeclKind → Symbols → Environment → ℕ → Covering → Type 0
   IsCovering n c xs env i r =
@@ -81,7 +82,7 @@ module _ (g : Grammar) (shapes : List Shape) (text : List ℕ) where
     pub derived : (c : DeclKind) (x : Symbol) (env : Environment) (i : ℕ) → OfEach (IsOutcome n c x env i) (lower.derived c x env i)
     pub lists : (c : DeclKind) (x : Symbol) (env : Environment) (i : ℕ) → OfEach (IsListing n c x env i) (lower.lists c x env i)
 
-module _ (known : MatchesAreKnown) (g : Grammar) (shapes : List Shape) (text : List ℕ) (n : ℕ) (lower : Lower) (sound : IsSound g shapes text n lower) where
+module _ (known : MatchesAreKnown) (g : Grammar) (shapes : List Shape) (text : Input) (n : ℕ) (lower : Lower) (sound : IsSound g shapes text n lower) where
   abbrev InstancedHere : List ℕ → List Value → ℕ → Instanced → Type 0
   InstancedHere = IsInstanced g shapes text (suc n)
 
@@ -349,7 +350,7 @@ module _ (known : MatchesAreKnown) (g : Grammar) (shapes : List Shape) (text : L
     derived (Seq xs) c env i = of_sequence xs (covered xs) c env i
     derived (Entry bindings x) c env i = of_entry bindings x (derived x) c env i
 
-module _ (known : MatchesAreKnown) (g : Grammar) (shapes : List Shape) (text : List ℕ) where
+module _ (known : MatchesAreKnown) (g : Grammar) (shapes : List Shape) (text : Input) where
   pub sound_before : (n : ℕ) → IsSound g shapes text n (before g shapes text n)
   sound_before zero = record { room = λ r. absurd (cc); covered = λ c xs env i. tt; derived = λ c x env i. tt; lists = λ c x env i. tt }
   sound_before (suc n) =

@@ -1,6 +1,7 @@
 -- The trees of the worked grammars, computed.
-use Rattle.std.proofs.Common.{◌≡◌, ℕ, List, [], ◌∷◌, refl}
-use Rattle.std.specs.Prelude.{codes}
+use Rattle.std.proofs.Common.{◌≡◌, List, [], ◌∷◌, refl}
+use Rattle.std.specs.Prelude.{codes, pos}
+use Rattle.ig_text.specs.Input.{Input, untabbed}
 use Rattle.ig_text.specs.Tree.{Tree}
 use Rattle.ig_meaning_examples.specs.Matches.{MatchesAreKnown}
 use Rattle.ig_grammar.specs.Numbering.{Levelled}
@@ -30,6 +31,8 @@ use Rattle.ig_meaning_examples.specs.Columns as columns_rows
 use Rattle.ig_meaning_examples.specs.Columns.{SeparatorsAreFree, AlignedListsHaveFilters, BlocksSeeAllTokens}
 use Rattle.ig_meaning_examples.specs.Blocks as blocks_rows
 use Rattle.ig_meaning_examples.specs.Blocks.{DeclarationsAreBlocks, NestedBlocksAreAsked, GreaterColumnsCount, TokensUnderBlocksAreSeen}
+use Rattle.ig_meaning_examples.specs.Widths as widths_rows
+use Rattle.ig_meaning_examples.specs.Widths.{TabsGoOnToStops, BlocksSeeTabs, ListsSeeTabs}
 use Rattle.ig_meaning_examples.specs.Passes as passes_rows
 use Rattle.ig_meaning_examples.specs.Passes.{SequencesStandInPlace, EntriesBindInside, RootsAreReadByTheirKind, ShapesGiveTags}
 use Rattle.ig_meaning_examples.proofs.Roots.{IsOnlyRoot, declared_root, rootless_root, written_symbols}
@@ -48,7 +51,7 @@ module _ (known : MatchesAreKnown) where
   only_root kind =
       declared_root (passes_rows.rooted kind) passes_rows.rooted_shapes (codes "$root") 3 (root_declaration kind) root_alternative refl (record { numbered = (2, refl, refl); shaped = (2, refl, refl); named = refl }) (0, refl, refl) refl
 
-  rooted : (kind : DeclKind) (text : List ℕ) (trees : List Tree) →
+  rooted : (kind : DeclKind) (text : Input) (trees : List Tree) →
       trees_up_to (passes_rows.rooted kind) passes_rows.rooted_shapes text kind root_alternative.alternative.symbols 8 ≡ trees →
       PermitsExactly (passes_rows.rooted kind) passes_rows.rooted_shapes text 8 trees
   rooted kind text trees computed =
@@ -58,7 +61,7 @@ module _ (known : MatchesAreKnown) where
   only_first : IsOnlyRoot passes_rows.forms passes_rows.form_shapes Syntax (written_symbols passes_rows.forms (codes "S"))
   only_first = rootless_root passes_rows.forms passes_rows.form_shapes (codes "S") refl refl
 
-  formed : (text : List ℕ) (trees : List Tree) →
+  formed : (text : Input) (trees : List Tree) →
       trees_up_to passes_rows.forms passes_rows.form_shapes text Syntax (written_symbols passes_rows.forms (codes "S")) 8 ≡ trees →
       PermitsExactly passes_rows.forms passes_rows.form_shapes text 8 trees
   formed text trees computed =
@@ -296,14 +299,40 @@ module _ (known : MatchesAreKnown) where
   pub roots_are_read_by_their_kind : RootsAreReadByTheirKind
   roots_are_read_by_their_kind =
       record {
-        plain_root = rooted Plain (codes " a") _ refl;
-        no_layout_behind = rooted Plain (codes " a ") _ refl;
-        syntax_root = rooted Syntax (codes " a ") _ refl;
+        plain_root = rooted Plain (untabbed (codes " a")) _ refl;
+        no_layout_behind = rooted Plain (untabbed (codes " a ")) _ refl;
+        syntax_root = rooted Syntax (untabbed (codes " a ")) _ refl;
       }
 
   pub shapes_give_tags : ShapesGiveTags
   shapes_give_tags =
       record {
-        tags = formed (codes "abccd,df") _ refl;
-        other_tags = formed (codes "cdd,de") _ refl;
+        tags = formed (untabbed (codes "abccd,df")) _ refl;
+        other_tags = formed (untabbed (codes "cdd,de")) _ refl;
+      }
+
+  pub tabs_go_on_to_stops : TabsGoOnToStops
+  tabs_go_on_to_stops =
+      record {
+        first = by_computing known widths_rows.maybe_tab (codes "S") refl (codes "\ta") 8 _ refl;
+        no_tab = by_computing known widths_rows.maybe_tab (codes "S") refl (codes "a") 8 _ refl;
+        within = by_computing known (widths_rows.ends_in (pos 4) (codes "ab\tc") (pos 6)) (codes "S") refl (codes "ab\tc") 8 _ refl;
+        at_stop = by_computing known (widths_rows.ends_in (pos 4) (codes "abcd\tc") (pos 10)) (codes "S") refl (codes "abcd\tc") 8 _ refl;
+        second_line = by_computing known (widths_rows.ends_in (pos 8) (codes "a\n\tb") (pos 10)) (codes "S") refl (codes "a\n\tb") 8 _ refl;
+        two = by_computing known (widths_rows.ends_in (pos 3) (codes "\t\t") (pos 7)) (codes "S") refl (codes "\t\t") 8 _ refl;
+      }
+
+  pub blocks_see_tabs : BlocksSeeTabs
+  blocks_see_tabs =
+      record {
+        behind_tab = by_computing known widths_rows.tabbed_block (codes "S") refl (codes "\ta\n\t b") 12 _ refl;
+        behind_blanks = by_computing known widths_rows.tabbed_block (codes "S") refl (codes "\ta\n     b") 14 _ refl;
+        in_its_column = by_computing known widths_rows.tabbed_block (codes "S") refl (codes "\ta\n    b") 14 _ refl;
+      }
+
+  pub lists_see_tabs : ListsSeeTabs
+  lists_see_tabs =
+      record {
+        one_column = by_computing known widths_rows.tabbed_declarations (codes "P") refl (codes "\ta = b\n    c = d") 16 _ refl;
+        two_columns = by_computing known widths_rows.tabbed_declarations (codes "P") refl (codes "\ta = b\n   c = d") 16 _ refl;
       }

@@ -1,5 +1,5 @@
 -- Blocks: where the tokens under `offside` and the items under `align` stand.
-use Rattle.std.specs.Prelude.{ℕ, ◌+◌, List, [], ◌∷◌, Some, codes}
+use Rattle.std.specs.Prelude.{ℕ, ◌+◌, List, [], ◌∷◌, Some, codes, None}
 use Rattle.ig_text.specs.declared.tag.Tag.TheVariants.{Nil, Snoc, One, More}
 use Rattle.ig_text.specs.Tree.{Tree, Leaf, Node, none}
 use Rattle.ig_grammar.specs.Symbol.{Symbol, Literal, Star, Plus, Offside, Ignore, Align}
@@ -13,6 +13,7 @@ abbrev pub declarations : Grammar
 declarations =
     record {
       start = Some (codes "P");
+      tabs = None;
       decls =
           rule Syntax (codes "P") (Align (Star (together (Offside (plain (codes "Decl")) ∷ []))) ∷ []) ∷ rule Syntax (codes "Decl") (plain (codes "Id") ∷ Literal (codes "=") ∷ Plus (plain (codes "Id")) ∷ []) ∷ identifiers ∷ layout ∷ [];
     }
@@ -42,6 +43,7 @@ abbrev pub nested : Grammar
 nested =
     record {
       start = Some (codes "S");
+      tabs = None;
       decls =
           rule Syntax (codes "S") (Offside (plain (codes "B")) ∷ []) ∷ rule Syntax (codes "B") (Offside (plain (codes "Id")) ∷ Offside (plain (codes "N")) ∷ []) ∷ choices Syntax (codes "N") ([] ∷ (Literal (codes "!") ∷ []) ∷ []) ∷ identifiers ∷ layout ∷ [];
     }
@@ -59,7 +61,7 @@ pub record NestedBlocksAreAsked : Type 0 where
 
 -- a grammar of one declaration with this block, and layout
 abbrev pub block : List Symbol → Grammar
-block symbols = record { start = Some (codes "S"); decls = rule Syntax (codes "S") (Offside (together symbols) ∷ []) ∷ layout ∷ [] }
+block symbols = record { start = Some (codes "S"); tabs = None; decls = rule Syntax (codes "S") (Offside (together symbols) ∷ []) ∷ layout ∷ [] }
 
 -- `"a" offside (ignore "b" offside (ignore "c" "d"))`
 abbrev pub ignoring : List Symbol

@@ -1,5 +1,5 @@
 -- Columns: aligned items with separators and filters, and tokens of options, lists and groups in blocks.
-use Rattle.std.specs.Prelude.{List, [], ◌∷◌, Some, codes}
+use Rattle.std.specs.Prelude.{List, [], ◌∷◌, Some, codes, None}
 use Rattle.ig_text.specs.declared.pattern.Pattern.TheVariants as pattern
 use Rattle.ig_text.specs.declared.tag.Tag.TheVariants.{Nil, Snoc, One, More, Absent, Present}
 use Rattle.ig_text.specs.Tree.{Leaf, Node, none}
@@ -16,6 +16,7 @@ abbrev pub separated : Grammar
 separated =
     record {
       start = Some (codes "P");
+      tabs = None;
       decls =
           rule Syntax (codes "P") (Align (SepStar (plain (codes "A")) (Literal (codes ","))) ∷ []) ∷ rule Lexical (codes "A") (OneOf letter ∷ []) ∷ layout ∷ [];
     }

@@ -1,5 +1,5 @@
 -- Values: names that are compared, and a number that is read and counted down.
-use Rattle.std.specs.Prelude.{[], ◌∷◌, Some, codes, pos}
+use Rattle.std.specs.Prelude.{[], ◌∷◌, Some, codes, pos, None}
 use Rattle.ig_text.specs.declared.tag.Tag.TheVariants.{Nil}
 use Rattle.ig_text.specs.Tree.{Leaf, Node, none}
 use Rattle.ig_expr.specs.Expression.{Expression, Integer, Variable, Binary, Of, Same}
@@ -19,6 +19,7 @@ abbrev pub elements : Grammar
 elements =
     record {
       start = Some (codes "El");
+      tabs = None;
       decls =
           rule Syntax (codes "El") (Literal (codes "<") ∷ Label (codes "n") (plain (codes "Name")) ∷ Literal (codes ">") ∷ Star (plain (codes "El")) ∷ Literal (codes "</") ∷ Label (codes "m") (plain (codes "Name")) ∷ Literal (codes ">") ∷ Guard (Same (Variable (codes "n")) (Variable (codes "m"))) ∷ []) ∷ rule Lexical (codes "Name") (word_of letter ∷ []) ∷ [];
     }
@@ -47,6 +48,7 @@ abbrev pub counted : Grammar
 counted =
     record {
       start = Some (codes "S");
+      tabs = None;
       decls =
           rule Syntax (codes "S") (Literal (codes "{") ∷ Label (codes "n") (plain (codes "Num")) ∷ Literal (codes "}") ∷ Call (codes "Body") (Of Number (Variable (codes "n")) ∷ []) ∷ []) ∷ rule Lexical (codes "Num") (word_of digit ∷ []) ∷ body ∷ [];
     }

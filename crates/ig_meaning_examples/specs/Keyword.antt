@@ -1,5 +1,5 @@
 -- An identifier that is no keyword.
-use Rattle.std.specs.Prelude.{[], ◌∷◌, Some, codes}
+use Rattle.std.specs.Prelude.{[], ◌∷◌, Some, codes, None}
 use Rattle.ig_text.specs.declared.pattern.Pattern.TheVariants as pattern
 use Rattle.ig_grammar.specs.Symbol.{OneOf, Plus, Filtered}
 use Rattle.ig_grammar.specs.declared.filter.Filter.TheVariants.{NotFollowed, Not}
@@ -13,6 +13,7 @@ abbrev pub grammar : Grammar
 grammar =
     record {
       start = Some (codes "S");
+      tabs = None;
       decls =
           rule Syntax (codes "S") (plain (codes "Id") ∷ []) ∷ rule Lexical (codes "Id") (Filtered (Plus (OneOf letter)) (NotFollowed (pattern.OneOf letter) ∷ Not (pattern.Literal (codes "if")) ∷ []) ∷ []) ∷ [];
     }

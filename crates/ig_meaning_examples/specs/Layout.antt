@@ -1,5 +1,5 @@
 -- Layout: behind each token of a syntax declaration, at the root, and where a rule calls it.
-use Rattle.std.specs.Prelude.{ℕ, List, [], ◌∷◌, Some, codes, pos}
+use Rattle.std.specs.Prelude.{ℕ, List, [], ◌∷◌, Some, codes, pos, None}
 use Rattle.ig_text.specs.declared.tag.Tag.TheVariants.{Absent, Present}
 use Rattle.ig_text.specs.Tree.{Leaf, Node, none}
 use Rattle.ig_expr.specs.Expression.{Integer, Variable, Binary, Of}
@@ -36,7 +36,7 @@ spaces = Star (OneOf (range 32 32))
 -- `start L; lexical L = "a";` and that layout
 abbrev pub lexical_start : Grammar
 lexical_start =
-    record { start = Some (codes "L"); decls = rule Lexical (codes "L") (Literal (codes "a") ∷ []) ∷ rule Layout (codes "W") (spaces ∷ []) ∷ [] }
+    record { start = Some (codes "L"); tabs = None; decls = rule Lexical (codes "L") (Literal (codes "a") ∷ []) ∷ rule Layout (codes "W") (spaces ∷ []) ∷ [] }
 
 -- a start symbol that is a token has layout behind it
 pub record LexicalStartsHaveLayout : Type 0 where
@@ -45,7 +45,7 @@ pub record LexicalStartsHaveLayout : Type 0 where
 -- `start W; syntax S = "a";` and that layout
 abbrev pub layout_start : Grammar
 layout_start =
-    record { start = Some (codes "W"); decls = rule Syntax (codes "S") (Literal (codes "a") ∷ []) ∷ rule Layout (codes "W") (spaces ∷ []) ∷ [] }
+    record { start = Some (codes "W"); tabs = None; decls = rule Syntax (codes "S") (Literal (codes "a") ∷ []) ∷ rule Layout (codes "W") (spaces ∷ []) ∷ [] }
 
 -- where layout is the start symbol, the root has two of it
 pub record LayoutMayStart : Type 0 where

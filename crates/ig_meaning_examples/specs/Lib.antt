@@ -12,3 +12,4 @@ pub mod Bindings
 pub mod Levels
 pub mod Passes
 pub mod Matches
+pub mod Widths

@@ -1,5 +1,5 @@
 -- Parts of grammars, as they are written most often.
-use Rattle.std.specs.Prelude.{ℕ, List, [], ◌∷◌, map, false, ◌+◌, Some, codes}
+use Rattle.std.specs.Prelude.{ℕ, List, [], ◌∷◌, map, false, ◌+◌, Some, codes, None}
 use Rattle.ig_text.specs.declared.class.Class.{Class}
 use Rattle.ig_text.specs.declared.class.Class.TheVariants.{Ranges}
 use Rattle.ig_text.specs.declared.pattern.Pattern.TheVariants as pattern
@@ -69,7 +69,7 @@ identifiers = rule Lexical (codes "Id") (word_of letter ∷ [])
 
 -- `start S;`, a syntax declaration `S` of one alternative, and the other declarations
 abbrev pub one_rule : List Symbol → List Decl → Grammar
-one_rule symbols others = record { start = Some (codes "S"); decls = rule Syntax (codes "S") symbols ∷ others }
+one_rule symbols others = record { start = Some (codes "S"); tabs = None; decls = rule Syntax (codes "S") symbols ∷ others }
 
 -- the trees in order
 abbrev pub trees : List Tree → Trees

@@ -1,5 +1,5 @@
 -- Symbols that cover nothing: a grammar with trees of every height, and left recursion behind an empty symbol.
-use Rattle.std.specs.Prelude.{[], ◌∷◌, Some, codes}
+use Rattle.std.specs.Prelude.{[], ◌∷◌, Some, codes, None}
 use Rattle.ig_text.specs.Tree.{Tree, Leaf}
 use Rattle.ig_grammar.specs.Symbol.{Literal}
 use Rattle.ig_grammar.specs.declared.declaration.DeclKind.TheVariants.{Syntax}
@@ -12,6 +12,7 @@ abbrev pub pairs : Grammar
 pairs =
     record {
       start = Some (codes "S");
+      tabs = None;
       decls = choices Syntax (codes "S") ((plain (codes "S") ∷ plain (codes "S") ∷ []) ∷ (Literal (codes "a") ∷ []) ∷ [] ∷ []) ∷ [];
     }
 
@@ -30,6 +31,7 @@ abbrev pub hidden : Grammar
 hidden =
     record {
       start = Some (codes "S");
+      tabs = None;
       decls =
           choices Syntax (codes "S") ((plain (codes "B") ∷ plain (codes "S") ∷ Literal (codes "x") ∷ []) ∷ (Literal (codes "y") ∷ []) ∷ []) ∷ rule Syntax (codes "B") [] ∷ [];
     }

@@ -1,5 +1,5 @@
 -- Operators on levels, and trees that keep to them along whole spines.
-use Rattle.std.specs.Prelude.{ℕ, List, [], ◌∷◌, Some, codes}
+use Rattle.std.specs.Prelude.{ℕ, List, [], ◌∷◌, Some, codes, None}
 use Rattle.ig_text.specs.Tree.{Tree, Leaf}
 use Rattle.ig_grammar.specs.Symbol.{Symbol, OneOf, Literal}
 use Rattle.ig_grammar.specs.declared.declaration.Assoc.TheVariants.{Free, Left, Nonassoc}
@@ -19,7 +19,7 @@ behind operator = plain (codes "E") ∷ Literal operator ∷ []
 
 -- a grammar whose one declaration has these levels
 abbrev pub grammar_of : List Level → Grammar
-grammar_of levels = record { start = Some (codes "E"); decls = declaration Syntax (codes "E") levels ∷ [] }
+grammar_of levels = record { start = Some (codes "E"); tabs = None; decls = declaration Syntax (codes "E") levels ∷ [] }
 
 -- the tree of one character, by alternative 1
 abbrev pub atom : ℕ → ℕ → Tree

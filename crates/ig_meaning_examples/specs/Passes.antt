@@ -1,6 +1,7 @@
 -- Forms that only passes write: sequences, entries, a declaration that stands for the root, and declarations that stand
 -- for options, lists and groups.
-use Rattle.std.specs.Prelude.{ℕ, List, [], ◌∷◌, Some, codes, pos}
+use Rattle.std.specs.Prelude.{ℕ, List, [], ◌∷◌, Some, codes, pos, None}
+use Rattle.ig_text.specs.Input.{untabbed}
 use Rattle.ig_text.specs.declared.tag.Tag.TheVariants.{Nil, Snoc, One, More, Absent, Present}
 use Rattle.ig_text.specs.Tree.{Leaf, Node, none}
 use Rattle.ig_expr.specs.Expression.{Expression, Integer, Variable, Here, Binary}
@@ -69,6 +70,7 @@ abbrev pub rooted : DeclKind → Grammar
 rooted kind =
     record {
       start = Some (codes "$root");
+      tabs = None;
       decls =
           rule Lexical (codes "L") (Literal (codes "a") ∷ []) ∷ rule Layout (codes "W") (spaces ∷ []) ∷ rule kind (codes "$root") (plain (codes "W") ∷ plain (codes "L") ∷ []) ∷ [];
     }
@@ -78,9 +80,9 @@ rooted_shapes = shape.Rule ∷ shape.Rule ∷ shape.Root ∷ []
 
 -- a declaration that stands for the root is read by its kind
 pub record RootsAreReadByTheirKind : Type 0 where
-  pub plain_root : PermitsExactly (rooted Plain) rooted_shapes (codes " a") 8 (root 2 (gap 2 0 1 ∷ leaf_of 1 1 1 2 ∷ []) ∷ [])
-  pub no_layout_behind : PermitsExactly (rooted Plain) rooted_shapes (codes " a ") 8 []
-  pub syntax_root : PermitsExactly (rooted Syntax) rooted_shapes (codes " a ") 8 (root 3 (gap 2 0 1 ∷ leaf_of 1 1 1 2 ∷ gap 2 2 1 ∷ []) ∷ [])
+  pub plain_root : PermitsExactly (rooted Plain) rooted_shapes (untabbed (codes " a")) 8 (root 2 (gap 2 0 1 ∷ leaf_of 1 1 1 2 ∷ []) ∷ [])
+  pub no_layout_behind : PermitsExactly (rooted Plain) rooted_shapes (untabbed (codes " a ")) 8 []
+  pub syntax_root : PermitsExactly (rooted Syntax) rooted_shapes (untabbed (codes " a ")) 8 (root 3 (gap 2 0 1 ∷ leaf_of 1 1 1 2 ∷ gap 2 2 1 ∷ []) ∷ [])
 
 -- `start S; syntax S = "a"? "b"* "c"+ {"d" ","}+ {"d" ","}* ("e" | "f");`, with a declaration for each form
 abbrev pub forms : Grammar
@@ -92,5 +94,5 @@ form_shapes = shape.Rule ∷ shape.Opt ∷ shape.Star ∷ shape.Plus ∷ shape.S
 
 -- the trees of a declaration that stands for a form have the tags of that form
 pub record ShapesGiveTags : Type 0 where
-  pub tags : PermitsExactly forms form_shapes (codes "abccd,df") 8 (root 8 (node 1 1 0 8 (Node Present 0 1 (trees (Leaf 0 1 ∷ [])) ∷ Node Snoc 1 2 (trees (Node Nil 1 1 none ∷ Leaf 1 2 ∷ [])) ∷ Node More 2 4 (trees (Node One 2 3 (trees (Leaf 2 3 ∷ [])) ∷ Leaf 3 4 ∷ [])) ∷ Node More 4 7 (trees (Node One 4 5 (trees (Leaf 4 5 ∷ [])) ∷ Leaf 5 6 ∷ Leaf 6 7 ∷ [])) ∷ Node Absent 7 7 none ∷ group 2 7 8 (Leaf 7 8 ∷ []) ∷ []) ∷ []) ∷ [])
-  pub other_tags : PermitsExactly forms form_shapes (codes "cdd,de") 8 (root 6 (node 1 1 0 6 (Node Absent 0 0 none ∷ Node Nil 0 0 none ∷ Node One 0 1 (trees (Leaf 0 1 ∷ [])) ∷ Node One 1 2 (trees (Leaf 1 2 ∷ [])) ∷ Node Present 2 5 (trees (Node More 2 5 (trees (Node One 2 3 (trees (Leaf 2 3 ∷ [])) ∷ Leaf 3 4 ∷ Leaf 4 5 ∷ [])) ∷ [])) ∷ group 1 5 6 (Leaf 5 6 ∷ []) ∷ []) ∷ []) ∷ [])
+  pub tags : PermitsExactly forms form_shapes (untabbed (codes "abccd,df")) 8 (root 8 (node 1 1 0 8 (Node Present 0 1 (trees (Leaf 0 1 ∷ [])) ∷ Node Snoc 1 2 (trees (Node Nil 1 1 none ∷ Leaf 1 2 ∷ [])) ∷ Node More 2 4 (trees (Node One 2 3 (trees (Leaf 2 3 ∷ [])) ∷ Leaf 3 4 ∷ [])) ∷ Node More 4 7 (trees (Node One 4 5 (trees (Leaf 4 5 ∷ [])) ∷ Leaf 5 6 ∷ Leaf 6 7 ∷ [])) ∷ Node Absent 7 7 none ∷ group 2 7 8 (Leaf 7 8 ∷ []) ∷ []) ∷ []) ∷ [])
+  pub other_tags : PermitsExactly forms form_shapes (untabbed (codes "cdd,de")) 8 (root 6 (node 1 1 0 6 (Node Absent 0 0 none ∷ Node Nil 0 0 none ∷ Node One 0 1 (trees (Leaf 0 1 ∷ [])) ∷ Node One 1 2 (trees (Leaf 1 2 ∷ [])) ∷ Node Present 2 5 (trees (Node More 2 5 (trees (Node One 2 3 (trees (Leaf 2 3 ∷ [])) ∷ Leaf 3 4 ∷ Leaf 4 5 ∷ [])) ∷ [])) ∷ group 1 5 6 (Leaf 5 6 ∷ []) ∷ []) ∷ []) ∷ [])

@@ -29,6 +29,7 @@ ghost use Rattle.ig_meaning_examples.specs.Columns.{SeparatorsAreFree, AlignedLi
 ghost use Rattle.ig_meaning_examples.specs.Columns.{BlocksSeeAllTokens};
 ghost use Rattle.ig_meaning_examples.specs.Passes.{SequencesStandInPlace, EntriesBindInside};
 ghost use Rattle.ig_meaning_examples.specs.Passes.{RootsAreReadByTheirKind, ShapesGiveTags};
+ghost use Rattle.ig_meaning_examples.specs.Widths.{TabsGoOnToStops, BlocksSeeTabs, ListsSeeTabs};
 
 use ig_expr::{matches_are_decided, matches_have_their_width};
 
@@ -314,6 +315,31 @@ pub fn roots_are_read_by_their_kind()
 /// texts each tag of each form.
 pub fn shapes_give_tags()
     ensures { ShapesGiveTags }
+{
+    matches_are_known();
+}
+
+/// With `start S; tabs 4; syntax S = "\t"? "a" when (column(here) == 6);` the text of a tab and
+/// `a` has one tree, and `a` has none; and so on for tabs at other columns, on a second line, and
+/// of other widths.
+pub fn tabs_go_on_to_stops()
+    ensures { TabsGoOnToStops }
+{
+    matches_are_known();
+}
+
+/// With `start S; tabs 4; syntax S = offside ("a" "b");` and layout with tabs, `a` behind a tab has
+/// `b` below it behind a tab and a blank, or five blanks, and not behind four.
+pub fn blocks_see_tabs()
+    ensures { BlocksSeeTabs }
+{
+    matches_are_known();
+}
+
+/// With declarations under `align` and `tabs 4;` one line may begin with a tab, and the next one
+/// with four blanks, and not with three.
+pub fn lists_see_tabs()
+    ensures { ListsSeeTabs }
 {
     matches_are_known();
 }

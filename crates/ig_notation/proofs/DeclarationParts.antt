@@ -1,9 +1,9 @@
 -- The parts of the rules, put together of what is read one behind the other: declarations.
-use Rattle.std.proofs.Common.{◌≡◌, ℕ, suc, ◌+◌, ◌≤◌, ◌<◌, List, [], ◌∷◌, ◌++◌, length, drop, refl, sym, ap, ◌∙◌, subst, true, false}
-use Rattle.std.specs.Prelude.{Option, Some, None}
+use Rattle.std.proofs.Common.{◌≡◌, ℕ, suc, ◌+◌, ◌≤◌, ◌<◌, List, [], ◌∷◌, ◌++◌, length, drop, refl, sym, ap, ◌∙◌, subst, true, false, arith}
+use Rattle.std.specs.Prelude.{Option, Some, None, ℤ, pos}
 use Rattle.std.proofs.lemmas.List.{append-nil, drop_all}
 use Rattle.ig_expr.specs.declared.kind.Kind.{Kind}
-use Rattle.ig_notation_syntax.specs.Token.{Token, Name, Head, Colon, Comma, Close, Equals, Semicolon, Greater, Start}
+use Rattle.ig_notation_syntax.specs.Token.{Token, Name, Head, Colon, Comma, Close, Equals, Semicolon, Greater, Start, Tabs, Number}
 use Rattle.ig_grammar.specs.Symbol.{Alternatives}
 use Rattle.ig_grammar.specs.Alternative.{gathered_alternatives}
 use Rattle.ig_grammar.specs.declared.symbol.Alt.{Alt}
@@ -14,13 +14,13 @@ use Rattle.ig_grammar.specs.declared.declaration.Param.{Param}
 use Rattle.ig_grammar.specs.declared.declaration.Level.{Level}
 use Rattle.ig_grammar.specs.declared.declaration.Decl.{Decl}
 use Rattle.ig_notation_syntax.specs.Rules as rule
-use Rattle.ig_notation_syntax.specs.Rules.{IsKind, IsDeclKind, ReadsAssociativity, ReadsAlternatives, ReadsLevel, ReadsLevels, ReadsParameters, ReadsDeclaration, ReadsDeclarations, FollowsRules}
+use Rattle.ig_notation_syntax.specs.Rules.{IsKind, IsDeclKind, ReadsAssociativity, ReadsAlternatives, ReadsLevel, ReadsLevels, ReadsParameters, ReadsDeclaration, ReadsDeclarations, ReadsBody, FollowsRules}
 use Rattle.ig_notation_syntax.specs.Machine as want
 use Rattle.ig_notation_syntax.specs.Machine.{Want, before, run, go, step, chosen, after_kind, after_declaration, alternatives_wants, level_wants, levels_wants, parameters_wants, declaration_wants}
 use Rattle.ig_notation_syntax.specs.Reading.{Goes}
 use Rattle.ig_notation_terms.specs.declared.fault.RuleFault.{RuleFault}
 use Rattle.ig_notation_terms.specs.declared.fault.RuleFault.TheVariants.{Unexpected, Memory}
-use Rattle.ig_notation_terms.specs.Readers.{Stands, Takes, Misses, at_end, at_token, MissesAt, StopsAt, Runs, Finds, Closed, Front, After}
+use Rattle.ig_notation_terms.specs.Readers.{Stands, StandsNumber, Takes, Misses, at_end, at_token, MissesAt, StopsAt, Runs, Finds, Closed, Front, After}
 use Rattle.ig_notation.specs.Parts.{FailsAt, ReadsHeading, ReadsParameter, ReadsFirst}
 use Rattle.ig_notation_terms.specs.Lists.{one_more, the_last, snoc}
 use Rattle.ig_notation_terms.specs.Steps.{passed, missed, some_there, stop_first, stop_past, stop_token, by_token, by_itself, in_turn, nothing, ReadsToken, the_token, the_sign, sign_then, then_sign}
@@ -240,13 +240,28 @@ fails : (w : Want) (a : List Want) (T : List Token) (i j : ℕ) (e : RuleFault) 
 fails w a T i j (Unexpected n) r s = r.go_on [] ∙ s.stops []
 fails w a T i j Memory r s = tt
 
-pub no_start : (T : List Token) (ds : List Decl) → ReadsDeclarations (drop 0 T) ds → FollowsRules T (record { start = None; decls = ds })
-no_start T ds h = rule.without_start T ds h
+pub no_tabs : (T : List Token) (i : ℕ) (ds : List Decl) → ReadsDeclarations (drop i T) ds → ReadsBody (drop i T) None ds
+no_tabs T i ds h = rule.without_tabs (drop i T) ds h
 
-pub starts : (T : List Token) (j : ℕ) (x y : List ℕ) (ds : List Decl) → Stands T 0 Start → Stands T 1 (Name x) → Takes Semicolon T 2 j → y ≡ x →
-    ReadsDeclarations (drop j T) ds → FollowsRules T (record { start = Some y; decls = ds })
-starts T j x y ds h n c e g =
+pub widened : (T : List Token) (i j : ℕ) (n z : ℤ) (ds : List Decl) → Stands T i Tabs → StandsNumber T (i + 1) n → Takes Semicolon T (i + 2) j →
+    ReadsDeclarations (drop j T) ds → n ≡ z → ReadsBody (drop i T) (Some z) ds
+widened T i j n z ds h m c g e =
+    let second : drop (i + 1) T ≡ Number m.spelled ∷ drop (i + 1 + 1) T = m.stands.there in
+    let two : i + 1 + 1 ≡ i + 2 = omega arith in
+    let rest : drop (i + 1 + 1) T ≡ Semicolon ∷ drop j T =
+    ap (λ z. drop z T) two ∙ c.stands.there ∙ ap (λ z. Semicolon ∷ drop z T) (sym c.next) in
+    subst (λ z. ReadsBody (drop i T) (Some z) ds) (sym m.is_number ∙ e)
+    (subst (λ z. ReadsBody z (Some (pos m.spelled)) ds)
+    (sym (h.there ∙ ap (λ z. Tabs ∷ z) (second ∙ ap (λ z. Number m.spelled ∷ z) rest))) (rule.with_tabs m.spelled (drop j T) ds g))
+
+pub no_start : (T : List Token) (tabs : Option ℤ) (ds : List Decl) → ReadsBody (drop 0 T) tabs ds →
+    FollowsRules T (record { start = None; tabs = tabs; decls = ds })
+no_start T tabs ds h = rule.without_start T tabs ds h
+
+pub starts : (T : List Token) (j : ℕ) (x y : List ℕ) (tabs : Option ℤ) (ds : List Decl) → Stands T 0 Start → Stands T 1 (Name x) →
+    Takes Semicolon T 2 j → y ≡ x → ReadsBody (drop j T) tabs ds → FollowsRules T (record { start = Some y; tabs = tabs; decls = ds })
+starts T j x y tabs ds h n c e g =
     let rest : drop 2 T ≡ Semicolon ∷ drop j T = c.stands.there ∙ ap (λ z. Semicolon ∷ drop z T) (sym c.next) in
-    subst (λ z. FollowsRules T (record { start = Some z; decls = ds })) (sym e)
-    (subst (λ z. FollowsRules z (record { start = Some x; decls = ds }))
-    (sym (h.there ∙ ap (λ z. Start ∷ z) (n.there ∙ ap (λ z. Name x ∷ z) rest))) (rule.with_start x (drop j T) ds g))
+    subst (λ z. FollowsRules T (record { start = Some z; tabs = tabs; decls = ds })) (sym e)
+    (subst (λ z. FollowsRules z (record { start = Some x; tabs = tabs; decls = ds }))
+    (sym (h.there ∙ ap (λ z. Start ∷ z) (n.there ∙ ap (λ z. Name x ∷ z) rest))) (rule.with_start x (drop j T) tabs ds g))

@@ -8,14 +8,15 @@ ghost use Rattle.ig_notation_syntax.specs.Token as spec;
 ghost use Rattle.ig_notation_syntax.specs.Rules.{IsKind, IsDeclKind, ReadsAssociativity};
 ghost use Rattle.ig_notation_syntax.specs.Rules.{ReadsLevel};
 ghost use Rattle.ig_notation_syntax.specs.Rules.{ReadsLevels, ReadsParameters, ReadsDeclaration};
-ghost use Rattle.ig_notation_syntax.specs.Rules.{ReadsDeclarations, FollowsRules};
+ghost use Rattle.ig_notation_syntax.specs.Rules.{ReadsDeclarations, ReadsBody, FollowsRules};
 ghost use Rattle.ig_grammar.specs.declared.declaration.Assoc.{Assoc as SpecAssoc};
 ghost use Rattle.ig_grammar.specs.declared.declaration.Param.{Param as SpecParam};
 ghost use Rattle.ig_grammar.specs.declared.declaration.Level.{Level as SpecLevel};
 ghost use Rattle.ig_grammar.specs.declared.declaration.Decl.{Decl as SpecDecl};
 ghost use Rattle.ig_notation_syntax.specs.Machine as want;
-ghost use Rattle.ig_notation_syntax.specs.Machine.{after_grammar, after_declarations, level_wants};
-ghost use Rattle.ig_notation_syntax.specs.Machine.{levels_wants, parameters_wants, close_bracket};
+ghost use Rattle.ig_notation_syntax.specs.Machine.{after_grammar, after_body, after_declarations};
+ghost use Rattle.ig_notation_syntax.specs.Machine.{level_wants, levels_wants, parameters_wants};
+ghost use Rattle.ig_notation_syntax.specs.Machine.{close_bracket};
 ghost use Rattle.ig_notation_syntax.specs.Reading.{Goes};
 ghost use Rattle.ig_notation_terms.specs.Readers.{Stands, Misses, MissesAt, Finds, StopsAt};
 ghost use Rattle.ig_notation_terms.specs.Readers.{Runs, Closed};
@@ -26,7 +27,9 @@ use crate::symbols::read_alternatives;
 use ig_expr::Kind;
 use ig_grammar::{Assoc, Decl, DeclKind, Decls, Grammar, Level, Levels, Param, Params};
 use ig_notation_syntax::Token;
-use ig_notation_terms::{RuleFault, Sign, Tokens, add, read_name, read_sign, stands_at};
+use ig_notation_terms::{
+    RuleFault, Sign, Tokens, add, read_name, read_number, read_sign, stands_at,
+};
 use ig_text::Word;
 use std::alloc::Global;
 
@@ -39,14 +42,18 @@ pub fn read_grammar(alloc: Global, tokens: &Tokens) -> Result<Grammar, RuleFault
     if is_started(tokens) {
         return read_started(alloc, tokens);
     }
-    let decls = read_declarations(alloc, tokens, 0)?;
-    Ok(Grammar { start: None, decls })
+    let (tabs, decls) = read_body(alloc, tokens, 0)?;
+    Ok(Grammar {
+        start: None,
+        tabs,
+        decls,
+    })
 }
 
 /// Whether the tokens begin with a start line.
 fn is_started(tokens: &Tokens) -> bool
     ensures yes { result ≡ true → Stands tokens.now 0 spec.Start }
-    ensures no { result ≡ false → Runs (want.grammar ∷ []) (want.declarations ∷ []) tokens.now 0 0 }
+    ensures no { result ≡ false → Runs (want.grammar ∷ []) (want.body ∷ []) tokens.now 0 0 }
 {
     match tokens.get(0) {
         Some(token) => is_start(token),
@@ -56,7 +63,7 @@ fn is_started(tokens: &Tokens) -> bool
 
 fn is_start(token: Token) -> bool
     ensures yes { result ≡ true → token_of token.entry ≡ spec.Start }
-    ensures no { result ≡ false → after_grammar (token_of token.entry) ≡ after_declarations
+    ensures no { result ≡ false → after_grammar (token_of token.entry) ≡ after_body
         (token_of token.entry) }
 {
     matches!(token, Token::Start)
@@ -71,11 +78,60 @@ fn read_started(alloc: Global, tokens: &Tokens) -> Result<Grammar, RuleFault>
     let name = read_name(tokens, 1)?;
     let end = read_sign(tokens, 2, Sign::Semicolon)?;
     let start = Word::new(alloc, name)?;
-    let decls = read_declarations(alloc, tokens, end)?;
+    let (tabs, decls) = read_body(alloc, tokens, end)?;
     Ok(Grammar {
         start: Some(start),
+        tabs,
         decls,
     })
+}
+
+/// Reads the line of a width of tabs, where there is one, and declarations up to the last token.
+fn read_body(alloc: Global, tokens: &Tokens, at: usize) -> Result<(Option<i64>, Decls), RuleFault>
+    ensures ok { IfOk result (λ r. ReadsBody (drop at tokens.now) r.0 r.1) }
+    ensures err { IfErr result (FailsAt want.body tokens.now at) }
+{
+    if says_width(tokens, at) {
+        return read_widened(alloc, tokens, at);
+    }
+    let decls = read_declarations(alloc, tokens, at)?;
+    Ok((None, decls))
+}
+
+/// Whether the line of a width of tabs stands there.
+fn says_width(tokens: &Tokens, at: usize) -> bool
+    ensures yes { result ≡ true → Stands tokens.now at spec.Tabs }
+    ensures no { result ≡ false →
+        Runs (want.body ∷ []) (want.declarations ∷ []) tokens.now at at }
+{
+    match tokens.get(at) {
+        Some(token) => is_tabs(token),
+        None => false,
+    }
+}
+
+fn is_tabs(token: Token) -> bool
+    ensures yes { result ≡ true → token_of token.entry ≡ spec.Tabs }
+    ensures no { result ≡ false → after_body (token_of token.entry) ≡ after_declarations
+        (token_of token.entry) }
+{
+    matches!(token, Token::Tabs)
+}
+
+/// Reads the line of a width of tabs, which stands there, and declarations up to the last token.
+fn read_widened(
+    alloc: Global,
+    tokens: &Tokens,
+    at: usize,
+) -> Result<(Option<i64>, Decls), RuleFault>
+    requires { Stands tokens.now at spec.Tabs }
+    ensures ok { IfOk result (λ r. ReadsBody (drop at tokens.now) r.0 r.1) }
+    ensures err { IfErr result (FailsAt want.body tokens.now at) }
+{
+    let tabs = read_number(tokens, at + 1)?;
+    let end = read_sign(tokens, at + 2, Sign::Semicolon)?;
+    let decls = read_declarations(alloc, tokens, end)?;
+    Ok((Some(tabs), decls))
 }
 
 /// Reads declarations up to the last token.

@@ -3,7 +3,7 @@ use Rattle.std.proofs.Common.{◌≡◌, ℕ, List, [], ◌∷◌, refl, sym, ap
 use Rattle.std.specs.Prelude.{Option, Some, None}
 use Rattle.ig_expr.specs.declared.kind.Kind.{Kind}
 use Rattle.ig_expr.specs.declared.kind.Kind.TheVariants as kinds
-use Rattle.ig_notation_syntax.specs.Token.{Token, Name, Head, Literal, Semicolon, Equals, Greater, Colon, Comma, Open, Close, CloseBrace, Start, Syntax, Lexical, Layout, Left, Right, Nonassoc, Int, Bool as BoolWord, Span}
+use Rattle.ig_notation_syntax.specs.Token.{Token, Name, Head, Literal, Semicolon, Equals, Greater, Colon, Comma, Open, Close, CloseBrace, Start, Tabs, Number, Syntax, Lexical, Layout, Left, Right, Nonassoc, Int, Bool as BoolWord, Span}
 use Rattle.ig_grammar.specs.Symbol.{Symbols, no_symbols, next_symbol, Alternatives, no_alternatives, next_alternative, listed, gathered}
 use Rattle.ig_grammar.specs.Alternative.{gathered_alternatives}
 use Rattle.ig_grammar.specs.declared.symbol.Alt.{Alt}
@@ -15,10 +15,10 @@ use Rattle.ig_grammar.specs.declared.declaration.Level.{Level}
 use Rattle.ig_grammar.specs.Gathered.{gathered_listed}
 use Rattle.ig_notation_syntax.specs.Rules as rule
 use Rattle.ig_notation_syntax.specs.Rules.{IsKind, IsDeclKind, ReadsAlternatives, ReadsAssociativity, ReadsLevel, ReadsLevels, ReadsParameters, ReadsDeclaration}
-use Rattle.ig_notation_syntax.specs.Machine.{Want, grammar, declarations, associativity, alternative, declaration, parameter, symbol, marked, post, atom, expression, term}
+use Rattle.ig_notation_syntax.specs.Machine.{Want, grammar, body, declarations, associativity, alternative, declaration, parameter, symbol, marked, post, atom, expression, term}
 use Rattle.ig_notation_syntax.specs.Machine.{parameters_rest, levels_rest, alternatives_rest, arguments_rest, operator_rest, filters, sign, name_rest, heading, kind, pattern, list_sign}
-use Rattle.ig_notation_syntax.specs.Machine.{name, literal, semicolon, equals, colon, comma, open_bracket, close_bracket, close_brace}
-use Rattle.ig_notation_syntax.specs.Machine.{may_lack, after, after_declaration, after_declarations, chosen, step}
+use Rattle.ig_notation_syntax.specs.Machine.{name, numeral, literal, semicolon, equals, colon, comma, open_bracket, close_bracket, close_brace}
+use Rattle.ig_notation_syntax.specs.Machine.{may_lack, after, after_declaration, after_declarations, after_body, chosen, step}
 use Rattle.ig_notation_syntax.specs.Machine.{levels_wants, parameters_wants, declaration_wants}
 use Rattle.ig_notation_syntax.proofs.Spans.{Spans, Chain, done, link, Cut, chain_cut, chain_join, OnRow, Permits}
 use Rattle.ig_notation_syntax.proofs.Spans as span
@@ -136,13 +136,21 @@ declarations_back : (t : Token) → OnRow (Permits (λ s r. Spans declarations (
 declarations_back t = before_permits (λ s r. Spans declaration (t ∷ s) r) (λ s r. Spans declarations (t ∷ s) r) (declarations ∷ [])
     (after_declaration t) (declaration_back t) (λ s m r. more_declarations (t ∷ s) m r)
 
-started : Permits (λ s r. Spans grammar (Start ∷ s) r) (name ∷ semicolon ∷ declarations ∷ [])
+widened : Permits (λ s r. Spans body (Tabs ∷ s) r) (numeral ∷ semicolon ∷ declarations ∷ [])
+widened i j (link (span.of_numeral n p) (link (span.of_semicolon s) (link rest (done r)))) = span.with_tabs n s r rest
+
+body_back : (t : Token) → OnRow (Permits (λ s r. Spans body (t ∷ s) r)) (after body t)
+body_back Tabs = widened
+body_back t = weaker (λ s r. Spans declarations (t ∷ s) r) (λ s r. Spans body (t ∷ s) r) (after_declarations t)
+    (λ s r. span.without_tabs (t ∷ s) r) (declarations_back t)
+
+started : Permits (λ s r. Spans grammar (Start ∷ s) r) (name ∷ semicolon ∷ body ∷ [])
 started i j (link (span.of_name x p) (link (span.of_semicolon s) (link rest (done r)))) = span.with_start x s r rest
 
 grammar_back : (t : Token) → OnRow (Permits (λ s r. Spans grammar (t ∷ s) r)) (after grammar t)
 grammar_back Start = started
-grammar_back t = weaker (λ s r. Spans declarations (t ∷ s) r) (λ s r. Spans grammar (t ∷ s) r) (after_declarations t)
-    (λ s r. span.without_start (t ∷ s) r) (declarations_back t)
+grammar_back t = weaker (λ s r. Spans body (t ∷ s) r) (λ s r. Spans grammar (t ∷ s) r) (after_body t)
+    (λ s r. span.without_start (t ∷ s) r) (body_back t)
 
 -- single tokens
 alone : (x : Want) (t : Token) → ((r : List Token) → Spans x (t ∷ r) r) → Permits (λ s r. Spans x (t ∷ s) r) []
@@ -151,6 +159,7 @@ alone x t f i j (done r) = f r
 -- each row of the table
 pub row_back : (x : Want) (t : Token) → OnRow (Permits (λ s r. Spans x (t ∷ s) r)) (after x t)
 row_back grammar t = grammar_back t
+row_back body t = body_back t
 row_back declarations t = declarations_back t
 row_back associativity t = associativity_back t
 row_back alternative t = alternative_back t
@@ -175,6 +184,7 @@ row_back kind t = kind_back t
 row_back pattern t = pattern_back t
 row_back list_sign t = list_sign_back t
 row_back name (Name x) = alone name (Name x) (span.of_name x)
+row_back numeral (Number n) = alone numeral (Number n) (span.of_numeral n)
 row_back literal (Literal x) = alone literal (Literal x) (span.of_literal x)
 row_back semicolon Semicolon = alone semicolon Semicolon span.of_semicolon
 row_back equals Equals = alone equals Equals span.of_equals
@@ -187,7 +197,8 @@ row_back _ _ = tt
 
 -- what may lack permits nothing
 pub lacks : (x : Want) → may_lack x ≡ true → (r : List Token) → Spans x r r
-lacks grammar e r = span.without_start r r (span.no_declaration r)
+lacks grammar e r = span.without_start r r (span.without_tabs r r (span.no_declaration r))
+lacks body e r = span.without_tabs r r (span.no_declaration r)
 lacks declarations e r = span.no_declaration r
 lacks associativity e r = span.of_associativity r r _ (rule.free r)
 lacks alternative e r = span.of_alternative r r _ (rule.no_symbol r)

@@ -5,7 +5,7 @@ use Rattle.ig_expr.specs.Expression.{Expression}
 use Rattle.ig_expr.specs.declared.kind.Kind.{Kind}
 use Rattle.ig_text.specs.declared.pattern.Pattern.{Pattern}
 use Rattle.ig_notation_syntax.specs.Token.{Token, Name, Head, Number, Literal, OneOf, Semicolon, Equals, Bar, Greater, Colon, Comma, Open, Close, OpenBrace, CloseBrace, Question, Star, Plus, Minus}
-use Rattle.ig_notation_syntax.specs.Token.{Start, Left, Right, Nonassoc, Offside, Ignore, Align, When, Let, Here, True, False, Not}
+use Rattle.ig_notation_syntax.specs.Token.{Start, Tabs, Left, Right, Nonassoc, Offside, Ignore, Align, When, Let, Here, True, False, Not}
 use Rattle.ig_grammar.specs.Symbol as tree
 use Rattle.ig_grammar.specs.Symbol.{Symbol, Symbols, Alternatives}
 use Rattle.ig_grammar.specs.declared.filter.Filter.{Filter}
@@ -17,10 +17,10 @@ use Rattle.ig_grammar.specs.declared.declaration.Decl.{Decl}
 use Rattle.ig_notation_syntax.specs.Rules as rule
 use Rattle.ig_notation_syntax.specs.Rules.{IsPattern, IsSeparated, IsFilter, IsKind, IsDeclKind, ReadsTerm, ReadsExpression, ReadsArguments, ReadsFilters, ReadsSign}
 use Rattle.ig_notation_syntax.specs.Rules.{ReadsSymbol, ReadsMarked, ReadsPost, ReadsAtom, ReadsAlternatives, ReadsAlternative, ReadsAssociativity, ReadsLevel, ReadsLevels, ReadsParameters, ReadsDeclaration}
-use Rattle.ig_notation_syntax.specs.Machine.{Want, grammar, declarations, associativity, alternative, declaration, symbol, marked, post, atom, expression, term}
+use Rattle.ig_notation_syntax.specs.Machine.{Want, grammar, body, declarations, associativity, alternative, declaration, symbol, marked, post, atom, expression, term}
 use Rattle.ig_notation_syntax.specs.Machine.{operator_rest, filters, sign, name_rest, kind, pattern, list_sign}
-use Rattle.ig_notation_syntax.specs.Machine.{literal, comma, close_bracket}
-use Rattle.ig_notation_syntax.specs.Machine.{before, may_lack, after_function, after_term, after_expression, after_atom, after_post, after_marked, after_declarations, after_grammar, after}
+use Rattle.ig_notation_syntax.specs.Machine.{numeral, literal, comma, close_bracket}
+use Rattle.ig_notation_syntax.specs.Machine.{before, may_lack, after_function, after_term, after_expression, after_atom, after_post, after_marked, after_declarations, after_body, after_grammar, after}
 use Rattle.ig_notation_syntax.specs.Machine.{alternatives_wants, level_wants, levels_wants, arguments_wants, parameters_wants, declaration_wants}
 use Rattle.ig_notation_syntax.specs.Rows.{function_row, operator_row}
 use Rattle.ig_notation_syntax.proofs.Spans.{Spans, Chain, done, link, chain_join}
@@ -237,11 +237,24 @@ declarations_begin (span.no_declaration r) = passed r refl
 declarations_begin (span.further_declaration s m r d e rest) =
     extended refl (λ t row. ap (before (declarations ∷ []))) (declaration_begins e) (link rest (done r))
 
-grammar_row : (t : Token) (row : List Want) → after_declarations t ≡ Some row → after_grammar t ≡ Some row
+body_row : (t : Token) (row : List Want) → after_declarations t ≡ Some row → after_body t ≡ Some row
+body_row Tabs row e = absurd (cc)
+body_row t row e = e
+
+body_begins : {s r : List Token} → Begins declarations s r → Begins body s r
+body_begins (takes t s r row e c) = takes t s r row (body_row t row e) c
+body_begins (passed r e) = passed r refl
+
+body_span_begins : {s r : List Token} → Spans body s r → Begins body s r
+body_span_begins (span.with_tabs n s r rest) =
+    takes Tabs (Number n ∷ Semicolon ∷ s) r _ refl (link (span.of_numeral n _) (link (span.of_semicolon s) (link rest (done r))))
+body_span_begins (span.without_tabs s r a) = body_begins (declarations_begin a)
+
+grammar_row : (t : Token) (row : List Want) → after_body t ≡ Some row → after_grammar t ≡ Some row
 grammar_row Start row e = absurd (cc)
 grammar_row t row e = e
 
-grammar_begins : {s r : List Token} → Begins declarations s r → Begins grammar s r
+grammar_begins : {s r : List Token} → Begins body s r → Begins grammar s r
 grammar_begins (takes t s r row e c) = takes t s r row (grammar_row t row e) c
 grammar_begins (passed r e) = passed r refl
 
@@ -249,7 +262,9 @@ grammar_begins (passed r e) = passed r refl
 pub begins : {x : Want} {s r : List Token} → Spans x s r → Begins x s r
 begins (span.with_start x s r rest) =
     takes Start (Name x ∷ Semicolon ∷ s) r _ refl (link (span.of_name x _) (link (span.of_semicolon s) (link rest (done r))))
-begins (span.without_start s r a) = grammar_begins (declarations_begin a)
+begins (span.without_start s r a) = grammar_begins (body_span_begins a)
+begins (span.with_tabs n s r rest) = body_span_begins (span.with_tabs n s r rest)
+begins (span.without_tabs s r a) = body_span_begins (span.without_tabs s r a)
 begins (span.no_declaration r) = passed r refl
 begins (span.further_declaration s m r d e rest) = declarations_begin (span.further_declaration s m r d e rest)
 begins (span.of_associativity s r a d) = associativity_begins d
@@ -284,6 +299,7 @@ begins (span.of_kind t k r is) = kind_by r is
 begins (span.of_pattern t p r is) = pattern_by r is
 begins (span.of_list_sign t r f) = list_sign_by r (f (tree.Literal []) (tree.Literal [])).1
 begins (span.of_name x r) = takes (Name x) r r [] refl (done r)
+begins (span.of_numeral n r) = takes (Number n) r r [] refl (done r)
 begins (span.of_literal x r) = takes (Literal x) r r [] refl (done r)
 begins (span.of_semicolon r) = takes Semicolon r r [] refl (done r)
 begins (span.of_equals r) = takes Equals r r [] refl (done r)

@@ -6,17 +6,18 @@ use Rattle.std.proofs.lemmas.Bool.{cond_both}
 use Rattle.std.proofs.lemmas.List.{append_assoc}
 use Rattle.ig_text.specs.Words.{is_word}
 use Rattle.ig_notation_syntax.specs.Token.{Token, Name, Head, Number, Literal, OneOf, Semicolon, Equals, Bar, Greater, Colon, Comma, Open, Close, OpenBrace, CloseBrace, Question, Star, Plus, Minus, Backslash, NotFollowedBy, NotPrecededBy, EqualTo, NotEqualTo, Less, AtMost, AtLeast}
-use Rattle.ig_notation_syntax.specs.Token.{Start, Syntax, Lexical, Layout, Left, Right, Nonassoc, Offside, Ignore, Align, When, Let, Here, True, False, And, Or, Not, Div, Mod, Int, Bool as BoolWord, Span}
-use Rattle.ig_notation_syntax.specs.Machine.{Want, grammar, declarations, associativity, alternative, declaration, parameter, symbol, marked, post, atom, expression, term}
+use Rattle.ig_notation_syntax.specs.Token.{Start, Syntax, Lexical, Layout, Left, Right, Nonassoc, Offside, Ignore, Align, When, Let, Here, True, False, And, Or, Not, Div, Mod, Int, Bool as BoolWord, Span, Tabs}
+use Rattle.ig_notation_syntax.specs.Machine.{Want, grammar, body, declarations, associativity, alternative, declaration, parameter, symbol, marked, post, atom, expression, term}
 use Rattle.ig_notation_syntax.specs.Machine.{parameters_rest, levels_rest, alternatives_rest, arguments_rest, operator_rest, filters, sign, name_rest, heading, kind, pattern, list_sign}
-use Rattle.ig_notation_syntax.specs.Machine.{name, literal, semicolon, equals, colon, comma, open_bracket, close_bracket, close_brace}
-use Rattle.ig_notation_syntax.specs.Machine.{before, may_lack, is_function_name, after_function, after_term, after_expression, after_operator_rest, after_atom, after_post, after_marked, after_symbol, after_alternative, after_declaration, after_declarations, after_grammar, after, chosen, step}
+use Rattle.ig_notation_syntax.specs.Machine.{name, numeral, literal, semicolon, equals, colon, comma, open_bracket, close_bracket, close_brace}
+use Rattle.ig_notation_syntax.specs.Machine.{before, may_lack, is_function_name, after_function, after_term, after_expression, after_operator_rest, after_atom, after_post, after_marked, after_symbol, after_alternative, after_declaration, after_declarations, after_body, after_grammar, after, chosen, step}
 use Rattle.ig_notation_syntax.specs.Machine.{levels_wants, declaration_wants}
 use Rattle.ig_notation_syntax.proofs.Spans.{OnRow}
 
 -- what may lack at the end of the want
 abbrev pub ends : Want → List Want
 ends grammar = grammar ∷ []
+ends body = body ∷ []
 ends declarations = declarations ∷ []
 ends associativity = associativity ∷ []
 ends alternative = alternative ∷ name_rest ∷ []
@@ -182,9 +183,13 @@ levels-semicolon : Apart levels_rest semicolon
 levels-semicolon Semicolon b = cc
 levels-semicolon _ b = cc
 
-declarations-in-grammar : Within declarations grammar
-declarations-in-grammar Syntax b = cc
-declarations-in-grammar _ b = cc
+declarations-in-body : Within declarations body
+declarations-in-body Syntax b = cc
+declarations-in-body _ b = cc
+
+body-in-grammar : Within body grammar
+body-in-grammar Syntax b = cc
+body-in-grammar _ b = cc
 
 -- each row keeps a stack good
 before_good : (rest k : List Want) (o : Option (List Want)) → OnRow (λ row. Good (row ++ (rest ++ k))) o → OnRow (λ row. Good (row ++ k)) (before rest o)
@@ -316,12 +321,17 @@ declaration_good k g _ = tt
 declarations_good : (k : List Want) → Clear declarations k → Good k → (t : Token) → OnRow (λ row. Good (row ++ k)) (after_declarations t)
 declarations_good k c g t = before_good (declarations ∷ []) k (after_declaration t) (declaration_good (declarations ∷ k) (c, g) t)
 
+body_good : (k : List Want) → Clear body k → Good k → (t : Token) → OnRow (λ row. Good (row ++ k)) (after_body t)
+body_good k c g Tabs = (λ t b. cc, (λ t b. cc, (narrower declarations body k declarations-in-body c, g)))
+body_good k c g t = declarations_good k (narrower declarations body k declarations-in-body c) g t
+
 grammar_good : (k : List Want) → Clear grammar k → Good k → (t : Token) → OnRow (λ row. Good (row ++ k)) (after_grammar t)
-grammar_good k c g Start = (λ t b. cc, (λ t b. cc, (narrower declarations grammar k declarations-in-grammar c, g)))
-grammar_good k c g t = declarations_good k (narrower declarations grammar k declarations-in-grammar c) g t
+grammar_good k c g Start = (λ t b. cc, (λ t b. cc, (narrower body grammar k body-in-grammar c, g)))
+grammar_good k c g t = body_good k (narrower body grammar k body-in-grammar c) g t
 
 row_good : (x : Want) (k : List Want) → Clear x k → Good k → (t : Token) → OnRow (λ row. Good (row ++ k)) (after x t)
 row_good grammar k c g t = grammar_good k c g t
+row_good body k c g t = body_good k c g t
 row_good declarations k c g t = declarations_good k c g t
 row_good alternative k c g t = alternative_good k c g t
 row_good declaration k c g t = declaration_good k g t
@@ -355,6 +365,7 @@ row_good pattern k c g (OneOf x) = g
 row_good list_sign k c g Star = g
 row_good list_sign k c g Plus = g
 row_good name k c g (Name x) = g
+row_good numeral k c g (Number n) = g
 row_good literal k c g (Literal x) = g
 row_good semicolon k c g Semicolon = g
 row_good equals k c g Equals = g
@@ -382,6 +393,7 @@ some_row o b k past row e = rw e refl
 
 pub barred : (x : Want) → may_lack x ≡ true → (t : Token) (row : List Want) → after x t ≡ Some row → Bars x t
 barred grammar h t row e = some_row _ _ _ _ row e
+barred body h t row e = some_row _ _ _ _ row e
 barred declarations h t row e = some_row _ _ _ _ row e
 barred associativity h t row e = some_row _ _ _ _ row e
 barred alternative h t row e = some_row _ _ _ _ row e

@@ -1,6 +1,6 @@
 -- A grammar that is read has no more declarations, levels, alternatives and symbols than tokens.
 use Rattle.std.proofs.Common.{◌≡◌, ℕ, suc, ◌+◌, ◌≤◌, ◌<◌, List, [], ◌∷◌, length, refl, sym, subst, arith}
-use Rattle.std.specs.Prelude.{sum_by}
+use Rattle.std.specs.Prelude.{sum_by, Option, ℤ}
 use Rattle.std.proofs.lemmas.List.Sums.{sum_by-cons}
 use Rattle.ig_notation_syntax.specs.Token as token
 use Rattle.ig_notation_syntax.specs.Token.{Token, Close, CloseBrace, Bar, Greater, Semicolon, Equals}
@@ -15,7 +15,7 @@ use Rattle.ig_grammar.specs.declared.declaration.Decl.{Decl}
 use Rattle.ig_grammar.specs.declared.grammar.Grammar.{Grammar}
 use Rattle.ig_notation_syntax.specs.Rules as rule
 use Rattle.ig_notation_syntax.specs.Rules.{IsSeparated, ReadsExpression, ReadsArguments, ReadsFilters, ReadsSign, filtered, ReadsSymbol, ReadsMarked, ReadsPost, ReadsAtom, ReadsAlternatives, ReadsAlternative}
-use Rattle.ig_notation_syntax.specs.Rules.{ReadsAssociativity, ReadsLevel, ReadsLevels, ReadsParameters, ReadsDeclaration, ReadsDeclarations, FollowsRules}
+use Rattle.ig_notation_syntax.specs.Rules.{ReadsAssociativity, ReadsLevel, ReadsLevels, ReadsParameters, ReadsDeclaration, ReadsDeclarations, ReadsBody, FollowsRules}
 use Rattle.ig_notation_syntax.proofs.Tails.{shorter, expression_tail, arguments_tail, associativity_tail, parameters_tail}
 
 -- between two lists of tokens lie at least as many tokens as the parts and as the alternatives, but for so many
@@ -324,7 +324,15 @@ module _ (by_form : CountsByForm) where
         symbols = omega (arith, h, less, c);
       }
 
+  -- the declarations of a body, in the tokens behind the line of a width of tabs
+  body_fits : {s : List Token} {tabs : Option ℤ} {ds : List Decl} → ReadsBody s tabs ds →
+      (m : List Token) × (length m ≤ length s) ×
+      DeclFits (length ds) (sum_by decl_levels ds) (sum_by decl_parts ds) (sum_by decl_alternatives ds) m []
+  body_fits (rule.with_tabs n s ds d) = (s, omega arith, declarations_fit d)
+  body_fits (rule.without_tabs s ds d) = (s, omega arith, declarations_fit d)
+
   pub grammar_counted : {tokens : List Token} {g : Grammar} (most : ℕ) → FollowsRules tokens g → length tokens < most → HasFewerThan most g
-  grammar_counted {g = g} most (rule.with_start x s ds d) less =
-      fewer g most s (token.Start ∷ token.Name x ∷ Semicolon ∷ s) (omega arith) less (declarations_fit d)
-  grammar_counted {g = g} most (rule.without_start s ds d) less = fewer g most s s (omega arith) less (declarations_fit d)
+  grammar_counted {g = g} most (rule.with_start x s tabs ds d) less =
+      let b = body_fits d in
+      fewer g most b.0 (token.Start ∷ token.Name x ∷ Semicolon ∷ s) (omega (arith, b.1)) less b.2
+  grammar_counted {g = g} most (rule.without_start s tabs ds d) less = let b = body_fits d in fewer g most b.0 s b.1 less b.2

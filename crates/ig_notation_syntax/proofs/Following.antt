@@ -1,14 +1,14 @@
 -- The machine, begun at the grammar: it stops where the tokens stop following the rules.
 use Rattle.std.proofs.Common.{◌≡◌, ℕ, ◌+◌, List, [], ◌∷◌, ◌++◌, length, refl, sym, ap, subst, ◌∙◌, true, false, arith, inl, inr}
-use Rattle.std.specs.Prelude.{Some, None, ◌⊎◌}
+use Rattle.std.specs.Prelude.{ℤ, pos, Option, Some, None, ◌⊎◌}
 use Rattle.std.proofs.lemmas.List.{append_assoc}
 use Rattle.ig_notation_syntax.specs.Token.{Token}
 use Rattle.ig_notation_syntax.specs.Rules as rule
-use Rattle.ig_notation_syntax.specs.Rules.{ReadsDeclarations, FollowsRules}
+use Rattle.ig_notation_syntax.specs.Rules.{ReadsDeclarations, ReadsBody, FollowsRules}
 use Rattle.ig_notation_syntax.specs.Stops.{Stops}
 use Rattle.ig_grammar.specs.declared.declaration.Decl.{Decl}
 use Rattle.ig_grammar.specs.declared.grammar.Grammar.{Grammar}
-use Rattle.ig_notation_syntax.specs.Machine.{Want, grammar, declarations, all_may_lack, step, run}
+use Rattle.ig_notation_syntax.specs.Machine.{Want, grammar, body, declarations, all_may_lack, step, run}
 use Rattle.ig_notation_syntax.specs.RuleLaws.{AreOfGrammar}
 use Rattle.ig_notation_syntax.proofs.Spans.{Spans, Chain, done, link}
 use Rattle.ig_notation_syntax.proofs.Spans as span
@@ -29,16 +29,26 @@ declarations_span : {s : List Token} {ds : List Decl} → ReadsDeclarations s ds
 declarations_span rule.no_declaration = span.no_declaration []
 declarations_span (rule.further_declaration s m d ds f rest) = span.further_declaration s m [] d f (declarations_span rest)
 
+body_of : {s r : List Token} → Spans body s r → r ≡ [] → (tabs : Option ℤ) × (ds : List Decl) × ReadsBody s tabs ds
+body_of (span.with_tabs n s r a) e =
+    let ds : (ds : List Decl) × ReadsDeclarations s ds = declarations_of a e in (Some (pos n), ds.0, rule.with_tabs n s ds.0 ds.1)
+body_of (span.without_tabs s r a) e =
+    let ds : (ds : List Decl) × ReadsDeclarations s ds = declarations_of a e in (None, ds.0, rule.without_tabs s ds.0 ds.1)
+
+body_span : {s : List Token} {tabs : Option ℤ} {ds : List Decl} → ReadsBody s tabs ds → Spans body s []
+body_span (rule.with_tabs n s ds d) = span.with_tabs n s [] (declarations_span d)
+body_span (rule.without_tabs s ds d) = span.without_tabs s [] (declarations_span d)
+
 grammar_of_span : {s r : List Token} → Spans grammar s r → r ≡ [] → AreOfGrammar s
-grammar_of_span (span.with_start x s r a) e = let ds : (ds : List Decl) × ReadsDeclarations s ds = declarations_of a e in (_, rule.with_start x s ds.0 ds.1)
-grammar_of_span (span.without_start s r a) e = let ds : (ds : List Decl) × ReadsDeclarations s ds = declarations_of a e in (_, rule.without_start s ds.0 ds.1)
+grammar_of_span (span.with_start x s r a) e = let b = body_of a e in (_, rule.with_start x s b.0 b.1 b.2)
+grammar_of_span (span.without_start s r a) e = let b = body_of a e in (_, rule.without_start s b.0 b.1 b.2)
 
 grammar_of : {s r : List Token} → Chain (grammar ∷ []) s r → r ≡ [] → AreOfGrammar s
 grammar_of (link a (done r)) e = grammar_of_span a e
 
 grammar_span : {s : List Token} {g : Grammar} → FollowsRules s g → Spans grammar s []
-grammar_span (rule.with_start x s ds d) = span.with_start x s [] (declarations_span d)
-grammar_span (rule.without_start s ds d) = span.without_start s [] (declarations_span d)
+grammar_span (rule.with_start x s tabs ds d) = span.with_start x s [] (body_span d)
+grammar_span (rule.without_start s tabs ds d) = span.without_start s [] (body_span d)
 
 grammar_chain : {s : List Token} {g : Grammar} → FollowsRules s g → Chain (grammar ∷ []) s []
 grammar_chain f = link (grammar_span f) (done [])

@@ -1,6 +1,6 @@
 -- Grammars that are read have only forms that can be written.
 use Rattle.std.proofs.Common.{List, [], ◌∷◌, sym, subst}
-use Rattle.std.specs.Prelude.{◌≢◌, All, Contains}
+use Rattle.std.specs.Prelude.{◌≢◌, All, Contains, Option, ℤ}
 use Rattle.std.proofs.lemmas.List.Elements.{All-nil, All-cons, All-contains}
 use Rattle.ig_notation_syntax.specs.Token.{Token}
 use Rattle.ig_grammar.specs.Symbol.{Symbol, Symbols, Alternatives}
@@ -14,7 +14,7 @@ use Rattle.ig_grammar.specs.declared.declaration.Decl.{Decl}
 use Rattle.ig_grammar.specs.declared.grammar.Grammar.{Grammar}
 use Rattle.ig_notation_syntax.specs.Rules as rule
 use Rattle.ig_notation_syntax.specs.Rules.{IsPattern, IsSeparated, IsFilter, IsDeclKind, ReadsFilters, ReadsSign, filtered, ReadsSymbol, ReadsMarked, ReadsPost, ReadsAtom, ReadsAlternatives, ReadsAlternative}
-use Rattle.ig_notation_syntax.specs.Rules.{ReadsAssociativity, ReadsLevel, ReadsLevels, ReadsParameters, ReadsDeclaration, ReadsDeclarations, FollowsRules}
+use Rattle.ig_notation_syntax.specs.Rules.{ReadsAssociativity, ReadsLevel, ReadsLevels, ReadsParameters, ReadsDeclaration, ReadsDeclarations, ReadsBody, FollowsRules}
 use Rattle.ig_notation_syntax.specs.Written.{IsWritten, SymbolsAreWritten, AlternativesAreWritten}
 use Rattle.ig_notation_syntax.proofs.Tails.{expression_written, arguments_written}
 
@@ -103,7 +103,11 @@ written_by g all = (
   (λ d in_grammar. (All-contains DeclIsWritten g.decls d all in_grammar).1),
 )
 
+body_written : {s : List Token} {tabs : Option ℤ} {ds : List Decl} → ReadsBody s tabs ds → All DeclIsWritten ds
+body_written (rule.with_tabs n s ds d) = declarations_written d
+body_written (rule.without_tabs s ds d) = declarations_written d
+
 pub grammar_written : {tokens : List Token} {g : Grammar} → FollowsRules tokens g →
     OfEachLevel AlternativesAreWritten g × ((d : Decl) → Contains g.decls d → d.kind ≢ Plain)
-grammar_written {g = g} (rule.with_start x s ds d) = written_by g (declarations_written d)
-grammar_written {g = g} (rule.without_start s ds d) = written_by g (declarations_written d)
+grammar_written {g = g} (rule.with_start x s tabs ds d) = written_by g (body_written d)
+grammar_written {g = g} (rule.without_start s tabs ds d) = written_by g (body_written d)

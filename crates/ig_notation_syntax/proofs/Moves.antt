@@ -3,8 +3,8 @@
 use Rattle.std.proofs.Common.{◌≡◌, ℕ, suc, List, [], ◌∷◌, ◌++◌, refl, ap, Bool, true, false}
 use Rattle.std.specs.Prelude.{Option, Some, None}
 use Rattle.std.proofs.lemmas.List.{append_assoc}
-use Rattle.ig_notation_syntax.specs.Token.{Token, Name, Colon, Question, Star, Plus, Minus, OpenBrace, Start, Offside, Ignore, Align, When, Let, Not}
-use Rattle.ig_notation_syntax.specs.Machine.{Want, grammar, declarations, declaration, alternative, symbol, marked, post, atom, expression, term, operator_rest, filters, sign, name_rest}
+use Rattle.ig_notation_syntax.specs.Token.{Token, Name, Colon, Question, Star, Plus, Minus, OpenBrace, Start, Tabs, Offside, Ignore, Align, When, Let, Not}
+use Rattle.ig_notation_syntax.specs.Machine.{Want, grammar, body, declarations, declaration, alternative, symbol, marked, post, atom, expression, term, operator_rest, filters, sign, name_rest}
 use Rattle.ig_notation_syntax.specs.Machine.{before, may_lack, after, after_symbol, after_declaration, chosen, step, go, run}
 
 -- a token that the stack takes, and one that it doesn't
@@ -92,6 +92,10 @@ pub declarations_at : (k : List Want) (t : Token) (row : List Want) → after_de
     step (declarations ∷ k) t ≡ step (declaration ∷ declarations ∷ k) t
 declarations_at k t row e = more_of (after_declaration t) row (declarations ∷ []) k true (step k t) (step (declarations ∷ k) t) e
 
-pub grammar_at : (k : List Want) (t : Token) → (t ≡ Start → ⊥) → step (grammar ∷ k) t ≡ step (declarations ∷ k) t
+pub body_at : (k : List Want) (t : Token) → (t ≡ Tabs → ⊥) → step (body ∷ k) t ≡ step (declarations ∷ k) t
+body_at k Tabs h = absurd (h refl)
+body_at k t h = refl
+
+pub grammar_at : (k : List Want) (t : Token) → (t ≡ Start → ⊥) → step (grammar ∷ k) t ≡ step (body ∷ k) t
 grammar_at k Start h = absurd (h refl)
 grammar_at k t h = refl

@@ -1,6 +1,6 @@
 -- Each name in a grammar that is read is that of a token.
 use Rattle.std.proofs.Common.{◌≡◌, ℕ, List, [], ◌∷◌, Some, subst}
-use Rattle.std.specs.Prelude.{All}
+use Rattle.std.specs.Prelude.{All, Option, ℤ}
 use Rattle.std.specs.List.{flat_map}
 use Rattle.std.proofs.lemmas.List.Elements.{All-nil, All-cons, All-append, All-contains}
 use Rattle.ig_expr.specs.Expression.{Expression}
@@ -12,7 +12,7 @@ use Rattle.ig_grammar.specs.declared.declaration.Decl.{Decl}
 use Rattle.ig_grammar.specs.declared.grammar.Grammar.{Grammar}
 use Rattle.ig_grammar.specs.Name.{IsName}
 use Rattle.ig_notation_syntax.specs.Rules as rule
-use Rattle.ig_notation_syntax.specs.Rules.{IsSeparated, ReadsTerm, ReadsExpression, ReadsArguments, ReadsSign, ReadsParameters, ReadsDeclaration, ReadsDeclarations, FollowsRules}
+use Rattle.ig_notation_syntax.specs.Rules.{IsSeparated, ReadsTerm, ReadsExpression, ReadsArguments, ReadsSign, ReadsParameters, ReadsDeclaration, ReadsDeclarations, ReadsBody, FollowsRules}
 use Rattle.ig_notation_syntax.specs.Names.{own_names, HasName, HasNames}
 use Rattle.ig_notation_syntax.proofs.Tails.{Facts, tail, head, behind, term_tail, expression_tail, declaration_tail}
 use Rattle.ig_notation_syntax.proofs.Standing.{Gives, grammar_holds}
@@ -111,14 +111,18 @@ declarations_named rule.no_declaration h = All-nil IsDeclared
 declarations_named (rule.further_declaration s m d ds e f) h =
     All-cons IsDeclared d ds (declaration_named e h) (declarations_named f (behind (declaration_tail e) h))
 
+body_named : {s : List Token} {tabs : Option ℤ} {ds : List Decl} → ReadsBody s tabs ds → Facts HasName s → All IsDeclared ds
+body_named (rule.with_tabs n s ds d) h = declarations_named d (tail (tail (tail h)))
+body_named (rule.without_tabs s ds d) h = declarations_named d h
+
 all_declared : {tokens : List Token} {g : Grammar} → FollowsRules tokens g → Facts HasName tokens → All IsDeclared g.decls
-all_declared (rule.with_start x s ds d) h = declarations_named d (tail (tail (tail h)))
-all_declared (rule.without_start s ds d) h = declarations_named d h
+all_declared (rule.with_start x s tabs ds d) h = body_named d (tail (tail (tail h)))
+all_declared (rule.without_start s tabs ds d) h = body_named d h
 
 start_named : {tokens : List Token} {g : Grammar} → FollowsRules tokens g → Facts HasName tokens → (name : List ℕ) →
     g.start ≡ Some name → IsName name
-start_named (rule.with_start x s ds d) h name e = let same : x ≡ name = cc in subst IsName same (head (tail h))
-start_named (rule.without_start s ds d) h name e = absurd (cc)
+start_named (rule.with_start x s tabs ds d) h name e = let same : x ≡ name = cc in subst IsName same (head (tail h))
+start_named (rule.without_start s tabs ds d) h name e = absurd (cc)
 
 pub grammar_named : {tokens : List Token} {g : Grammar} → FollowsRules tokens g → All HasName tokens → HasNames g
 grammar_named {g = g} d h =

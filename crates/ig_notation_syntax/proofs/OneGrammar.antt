@@ -1,8 +1,8 @@
 -- Tokens read as one grammar at most.
 use Rattle.std.proofs.Common.{◌≡◌, List, [], ◌∷◌, refl, sym, ap, subst, ◌∙◌}
-use Rattle.std.specs.Prelude.{Some, None}
+use Rattle.std.specs.Prelude.{Some, None, Option, ℤ}
 use Rattle.ig_expr.specs.declared.kind.Kind.{Kind}
-use Rattle.ig_notation_syntax.specs.Token.{Token, Equals, Bar, Greater, Close, Semicolon, Start}
+use Rattle.ig_notation_syntax.specs.Token.{Token, Equals, Bar, Greater, Close, Semicolon, Start, Tabs}
 use Rattle.ig_grammar.specs.Symbol.{Symbol, Alternatives, listed, gathered}
 use Rattle.ig_grammar.specs.Alternative.{gathered_alternatives}
 use Rattle.ig_grammar.specs.declared.symbol.Alt.{Alt}
@@ -14,7 +14,7 @@ use Rattle.ig_grammar.specs.declared.declaration.Decl.{Decl}
 use Rattle.ig_grammar.specs.declared.grammar.Grammar.{Grammar}
 use Rattle.ig_grammar.specs.Gathered.{listed_gathered}
 use Rattle.ig_notation_syntax.specs.Rules as rule
-use Rattle.ig_notation_syntax.specs.Rules.{IsKind, IsDeclKind, ReadsAlternatives, ReadsAssociativity, ReadsLevel, ReadsLevels, ReadsParameters, ReadsDeclaration, ReadsDeclarations, FollowsRules}
+use Rattle.ig_notation_syntax.specs.Rules.{IsKind, IsDeclKind, ReadsAlternatives, ReadsAssociativity, ReadsLevel, ReadsLevels, ReadsParameters, ReadsDeclaration, ReadsDeclarations, ReadsBody, FollowsRules}
 use Rattle.ig_notation_syntax.specs.Machine.{associativity, alternative, alternatives_rest, levels_rest, parameters_rest}
 use Rattle.ig_notation_syntax.proofs.Begins.{alternative_begins, declaration_begins}
 use Rattle.ig_notation_syntax.proofs.BackDeclarations.{alternatives_list}
@@ -127,8 +127,22 @@ declarations_one (rule.further_declaration s m d ds e f) os (rule.further_declar
 no_start_line : {s : List Token} {ds : List Decl} → ReadsDeclarations (Start ∷ s) ds → ⊥
 no_start_line (rule.further_declaration s m d ds e f) = cannot_begin refl refl (declaration_begins e)
 
+no_tabs_line : {s : List Token} {ds : List Decl} → ReadsDeclarations (Tabs ∷ s) ds → ⊥
+no_tabs_line (rule.further_declaration s m d ds e f) = cannot_begin refl refl (declaration_begins e)
+
+no_start_in_body : {s : List Token} {tabs : Option ℤ} {ds : List Decl} → ReadsBody (Start ∷ s) tabs ds → ⊥
+no_start_in_body (rule.without_tabs s ds d) = no_start_line d
+
+body_one : {s : List Token} {tabs width : Option ℤ} {ds os : List Decl} → ReadsBody s tabs ds → ReadsBody s width os → (tabs ≡ width) × (ds ≡ os)
+body_one (rule.with_tabs n s ds d) (rule.with_tabs m t os c) = (refl, declarations_one d os c)
+body_one (rule.with_tabs n s ds d) (rule.without_tabs t os c) = absurd (no_tabs_line c)
+body_one (rule.without_tabs s ds d) (rule.with_tabs m t os c) = absurd (no_tabs_line d)
+body_one (rule.without_tabs s ds d) (rule.without_tabs t os c) = (refl, declarations_one d os c)
+
 pub grammar_one : {tokens : List Token} {g h : Grammar} → FollowsRules tokens g → FollowsRules tokens h → g ≡ h
-grammar_one (rule.with_start x s ds d) (rule.with_start y t os c) = let h : ds ≡ os = declarations_one d os c in λ i. record { start = Some x; decls = h i }
-grammar_one (rule.with_start x s ds d) (rule.without_start t os c) = absurd (no_start_line c)
-grammar_one (rule.without_start s ds d) (rule.with_start y t os c) = absurd (no_start_line d)
-grammar_one (rule.without_start s ds d) (rule.without_start t os c) = let h : ds ≡ os = declarations_one d os c in λ i. record { start = None; decls = h i }
+grammar_one (rule.with_start x s tabs ds d) (rule.with_start y t width os c) =
+    let h = body_one d c in λ i. record { start = Some x; tabs = h.0 i; decls = h.1 i }
+grammar_one (rule.with_start x s tabs ds d) (rule.without_start t width os c) = absurd (no_start_in_body c)
+grammar_one (rule.without_start s tabs ds d) (rule.with_start y t width os c) = absurd (no_start_in_body d)
+grammar_one (rule.without_start s tabs ds d) (rule.without_start t width os c) =
+    let h = body_one d c in λ i. record { start = None; tabs = h.0 i; decls = h.1 i }

@@ -2,7 +2,7 @@
 -- goes on.
 use Rattle.std.proofs.Common.{◌≡◌, ℕ, suc, ◌+◌, List, [], ◌∷◌, ◌++◌, length, refl, ap, subst, Bool, true, false, arith}
 use Rattle.std.specs.Prelude.{Option, Some, None, ◌&&◌, if◌then◌else◌, codes}
-use Rattle.ig_notation_syntax.specs.Token.{Token, Name, Literal, Semicolon, Equals, Colon, Comma, Open, Close, CloseBrace, Star, Syntax, Here, Int}
+use Rattle.ig_notation_syntax.specs.Token.{Token, Number, Name, Literal, Semicolon, Equals, Colon, Comma, Open, Close, CloseBrace, Star, Syntax, Here, Int}
 use Rattle.ig_expr.specs.declared.kind.Kind.TheVariants as kinds
 use Rattle.ig_text.specs.declared.pattern.Pattern.TheVariants as patterns
 use Rattle.ig_grammar.specs.Symbol as tree
@@ -13,7 +13,7 @@ use Rattle.ig_notation_syntax.specs.Rules as rule
 use Rattle.ig_notation_syntax.specs.Rules.{ReadsAtom, ReadsPost, ReadsMarked, ReadsTerm}
 use Rattle.ig_notation_syntax.specs.Machine.{Want, declaration, parameter, symbol, marked, post, atom, expression, term}
 use Rattle.ig_notation_syntax.specs.Machine.{heading, kind, pattern, list_sign}
-use Rattle.ig_notation_syntax.specs.Machine.{name, literal, semicolon, equals, colon, comma, open_bracket, close_bracket, close_brace}
+use Rattle.ig_notation_syntax.specs.Machine.{name, numeral, literal, semicolon, equals, colon, comma, open_bracket, close_bracket, close_brace}
 use Rattle.ig_notation_syntax.specs.Machine.{may_lack, all_may_lack, after, chosen, step, go, run}
 use Rattle.ig_notation_syntax.proofs.Spans.{Spans, Chain, done, link, chain_join, OnRow, Permits}
 use Rattle.ig_notation_syntax.proofs.Spans as span
@@ -177,6 +177,7 @@ shortest kind = Int ∷ []
 shortest pattern = Literal letter ∷ []
 shortest list_sign = Star ∷ []
 shortest name = Name letter ∷ []
+shortest numeral = Number 1 ∷ []
 shortest literal = Literal letter ∷ []
 shortest semicolon = Semicolon ∷ []
 shortest equals = Equals ∷ []
@@ -213,6 +214,7 @@ permits_shortest kind r = span.of_kind Int kinds.Int r rule.int
 permits_shortest pattern r = span.of_pattern (Literal letter) (patterns.Literal letter) r (rule.literal_pattern letter)
 permits_shortest list_sign r = span.of_list_sign Star r (λ x y. (tree.SepStar x y, rule.separated_star x y))
 permits_shortest name r = span.of_name letter r
+permits_shortest numeral r = span.of_numeral 1 r
 permits_shortest literal r = span.of_literal letter r
 permits_shortest semicolon r = span.of_semicolon r
 permits_shortest equals r = span.of_equals r

@@ -5,7 +5,7 @@ use Rattle.ig_expr.specs.Expression.{Expression}
 use Rattle.ig_expr.specs.declared.operator.Op.{Op}
 use Rattle.ig_expr.specs.declared.kind.Kind.{Kind}
 use Rattle.ig_text.specs.declared.pattern.Pattern.{Pattern}
-use Rattle.ig_notation_syntax.specs.Token.{Token, Name, Head, Literal, Semicolon, Equals, Bar, Greater, Colon, Comma, Open, Close, CloseBrace, Start}
+use Rattle.ig_notation_syntax.specs.Token.{Token, Name, Head, Literal, Semicolon, Equals, Bar, Greater, Colon, Comma, Open, Close, CloseBrace, Start, Tabs, Number}
 use Rattle.ig_grammar.specs.Symbol.{Symbol, Symbols, Alternatives}
 use Rattle.ig_grammar.specs.declared.filter.Filter.{Filter}
 use Rattle.ig_grammar.specs.declared.declaration.Param.{Param}
@@ -14,14 +14,16 @@ use Rattle.ig_grammar.specs.declared.declaration.Level.{Level}
 use Rattle.ig_grammar.specs.declared.declaration.Decl.{Decl}
 use Rattle.ig_notation_syntax.specs.Rules.{IsOperator, IsKind, IsPattern, IsSeparated, ReadsTerm, ReadsExpression, ReadsArguments, ReadsFilters, ReadsSign}
 use Rattle.ig_notation_syntax.specs.Rules.{ReadsSymbol, ReadsMarked, ReadsPost, ReadsAtom, ReadsAlternatives, ReadsAlternative, ReadsAssociativity, ReadsLevels, ReadsParameters, ReadsDeclaration}
-use Rattle.ig_notation_syntax.specs.Machine.{Want, grammar, declarations, associativity, alternative, declaration, parameter, symbol, marked, post, atom, expression, term}
+use Rattle.ig_notation_syntax.specs.Machine.{Want, grammar, body, declarations, associativity, alternative, declaration, parameter, symbol, marked, post, atom, expression, term}
 use Rattle.ig_notation_syntax.specs.Machine.{parameters_rest, levels_rest, alternatives_rest, arguments_rest, operator_rest, filters, sign, name_rest, heading, kind, pattern, list_sign}
-use Rattle.ig_notation_syntax.specs.Machine.{name, literal, semicolon, equals, colon, comma, open_bracket, close_bracket, close_brace}
+use Rattle.ig_notation_syntax.specs.Machine.{name, numeral, literal, semicolon, equals, colon, comma, open_bracket, close_bracket, close_brace}
 
 -- the tokens from the first list up to the second are what the want permits
 pub data Spans : Want → List Token → List Token → Type 0 where
-  with_start : (x : List ℕ) (s r : List Token) → Spans declarations s r → Spans grammar (Start ∷ Name x ∷ Semicolon ∷ s) r
-  without_start : (s r : List Token) → Spans declarations s r → Spans grammar s r
+  with_start : (x : List ℕ) (s r : List Token) → Spans body s r → Spans grammar (Start ∷ Name x ∷ Semicolon ∷ s) r
+  without_start : (s r : List Token) → Spans body s r → Spans grammar s r
+  with_tabs : (n : ℕ) (s r : List Token) → Spans declarations s r → Spans body (Tabs ∷ Number n ∷ Semicolon ∷ s) r
+  without_tabs : (s r : List Token) → Spans declarations s r → Spans body s r
   no_declaration : (r : List Token) → Spans declarations r r
   further_declaration : (s m r : List Token) (d : Decl) → ReadsDeclaration s m d → Spans declarations m r → Spans declarations s r
   of_associativity : (s r : List Token) (a : Assoc) → ReadsAssociativity s r a → Spans associativity s r
@@ -54,6 +56,7 @@ pub data Spans : Want → List Token → List Token → Type 0 where
   of_pattern : (t : Token) (p : Pattern) (r : List Token) → IsPattern t p → Spans pattern (t ∷ r) r
   of_list_sign : (t : Token) (r : List Token) → ((x y : Symbol) → (z : Symbol) × IsSeparated t x y z) → Spans list_sign (t ∷ r) r
   of_name : (x : List ℕ) (r : List Token) → Spans name (Name x ∷ r) r
+  of_numeral : (n : ℕ) (r : List Token) → Spans numeral (Number n ∷ r) r
   of_literal : (x : List ℕ) (r : List Token) → Spans literal (Literal x ∷ r) r
   of_semicolon : (r : List Token) → Spans semicolon (Semicolon ∷ r) r
   of_equals : (r : List Token) → Spans equals (Equals ∷ r) r

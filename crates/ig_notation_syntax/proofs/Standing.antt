@@ -1,6 +1,6 @@
 -- What the tokens give for each symbol holds of all symbols in a grammar that is read.
 use Rattle.std.proofs.Common.{ℕ, List, [], ◌∷◌, ◌++◌, sym, subst, refl}
-use Rattle.std.specs.Prelude.{All}
+use Rattle.std.specs.Prelude.{All, Option, ℤ}
 use Rattle.std.proofs.lemmas.List.Elements.{All-head, All-nil, All-cons, All-append, All-contains}
 use Rattle.ig_text.specs.declared.class.Class.{Class}
 use Rattle.ig_expr.specs.Expression.{Expression}
@@ -19,7 +19,7 @@ use Rattle.ig_grammar.specs.Forms.{mark_of_filtered, label_of_marked}
 use Rattle.ig_notation_syntax.specs.Rules as rule
 use Rattle.ig_notation_syntax.specs.Rules.{IsSeparated, ReadsExpression, ReadsArguments, ReadsFilters, ReadsSign, filtered}
 use Rattle.ig_notation_syntax.specs.Rules.{ReadsSymbol, ReadsMarked, ReadsPost, ReadsAtom, ReadsAlternatives, ReadsAlternative}
-use Rattle.ig_notation_syntax.specs.Rules.{ReadsLevel, ReadsLevels, ReadsDeclaration, ReadsDeclarations, FollowsRules}
+use Rattle.ig_notation_syntax.specs.Rules.{ReadsLevel, ReadsLevels, ReadsDeclaration, ReadsDeclarations, ReadsBody, FollowsRules}
 use Rattle.ig_notation_syntax.proofs.Tails.{Facts, tail, head, behind, ends_by, sign_tail, symbol_tail, marked_tail, atom_tail, alternative_tail, associativity_tail, level_tail, parameters_tail, declaration_tail}
 
 abbrev pub Fits : (Symbol → Type 0) → Symbol → Type 0
@@ -213,9 +213,13 @@ module _ {P : Token → Type 0} {Q : Symbol → Type 0} (gives : Gives P Q) wher
   of_each g all d l in_grammar in_decl =
       All-contains LevelHolds d.levels l (All-contains DeclHolds g.decls d all in_grammar) in_decl
 
+  body_holds : {s : List Token} {tabs : Option ℤ} {ds : List Decl} → ReadsBody s tabs ds → Facts P s → All DeclHolds ds
+  body_holds (rule.with_tabs n s ds d) a = declarations_hold d (tail (tail (tail a)))
+  body_holds (rule.without_tabs s ds d) a = declarations_hold d a
+
   holds_by : {tokens : List Token} {g : Grammar} → FollowsRules tokens g → Facts P tokens → OfEachLevel Among g
-  holds_by {g = g} (rule.with_start x s ds d) a = of_each g (declarations_hold d (tail (tail (tail a))))
-  holds_by {g = g} (rule.without_start s ds d) a = of_each g (declarations_hold d a)
+  holds_by {g = g} (rule.with_start x s tabs ds d) a = of_each g (body_holds d (tail (tail (tail a))))
+  holds_by {g = g} (rule.without_start s tabs ds d) a = of_each g (body_holds d a)
 
   pub grammar_holds : {tokens : List Token} {g : Grammar} → FollowsRules tokens g → All P tokens →
       OfEachLevel (λ ys. All Q (subterms_of_alternatives ys)) g

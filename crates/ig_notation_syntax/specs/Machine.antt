@@ -4,11 +4,12 @@ use Rattle.std.specs.Prelude.{ℕ, suc, List, [], ◌∷◌, ◌++◌, Bool, tru
 use Rattle.std.specs.Prelude.{Option, Some, None}
 use Rattle.ig_text.specs.Words.{is_word}
 use Rattle.ig_notation_syntax.specs.Token.{Token, Name, Head, Number, Literal, OneOf, Semicolon, Equals, Bar, Greater, Colon, Comma, Open, Close, OpenBrace, CloseBrace, Question, Star, Plus, Minus, Backslash, NotFollowedBy, NotPrecededBy, EqualTo, NotEqualTo, Less, AtMost, AtLeast}
-use Rattle.ig_notation_syntax.specs.Token.{Start, Syntax, Lexical, Layout, Left, Right, Nonassoc, Offside, Ignore, Align, When, Let, Here, True, False, And, Or, Not, Div, Mod, Int, Bool as BoolWord, Span}
+use Rattle.ig_notation_syntax.specs.Token.{Start, Syntax, Lexical, Layout, Left, Right, Nonassoc, Offside, Ignore, Align, When, Let, Here, True, False, And, Or, Not, Div, Mod, Int, Bool as BoolWord, Span, Tabs}
 
 pub data Want : Type 0 where
-  -- the parts that the rules name; of these the first two, the associativity and the alternative may lack
+  -- the parts that the rules name; of these the first three, the associativity and the alternative may lack
   grammar : Want
+  body : Want
   declarations : Want
   associativity : Want
   alternative : Want
@@ -37,6 +38,7 @@ pub data Want : Type 0 where
   list_sign : Want
   -- one token
   name : Want
+  numeral : Want
   literal : Want
   semicolon : Want
   equals : Want
@@ -48,6 +50,7 @@ pub data Want : Type 0 where
 
 abbrev pub may_lack : Want → Bool
 may_lack grammar = true
+may_lack body = true
 may_lack declarations = true
 may_lack associativity = true
 may_lack alternative = true
@@ -233,13 +236,21 @@ after_declaration _ = None
 abbrev pub after_declarations : Token → Option (List Want)
 after_declarations t = before (declarations ∷ []) (after_declaration t)
 
+abbrev pub after_body : Token → Option (List Want)
+after_body Tabs = Some (numeral ∷ semicolon ∷ declarations ∷ [])
+after_body t = after_declarations t
+
 abbrev pub after_grammar : Token → Option (List Want)
-after_grammar Start = Some (name ∷ semicolon ∷ declarations ∷ [])
-after_grammar t = after_declarations t
+after_grammar Start = Some (name ∷ semicolon ∷ body ∷ [])
+after_grammar t = after_body t
 
 abbrev pub after_name : Token → Option (List Want)
 after_name (Name x) = Some []
 after_name _ = None
+
+abbrev pub after_numeral : Token → Option (List Want)
+after_numeral (Number n) = Some []
+after_numeral _ = None
 
 abbrev pub after_literal : Token → Option (List Want)
 after_literal (Literal word) = Some []
@@ -276,6 +287,7 @@ after_close_brace _ = None
 -- the table: what is wanted in place of the want, once this token is read
 abbrev pub after : Want → Token → Option (List Want)
 after grammar t = after_grammar t
+after body t = after_body t
 after declarations t = after_declarations t
 after associativity t = after_associativity t
 after alternative t = after_alternative t
@@ -300,6 +312,7 @@ after kind t = after_kind t
 after pattern t = after_pattern t
 after list_sign t = after_list_sign t
 after name t = after_name t
+after numeral t = after_numeral t
 after literal t = after_literal t
 after semicolon t = after_semicolon t
 after equals t = after_equals t

@@ -1,6 +1,6 @@
 -- The rules of the notation: which tokens read as which part of a grammar. In `ReadsX from rest x` the tokens from
 -- `from` up to `rest` read as x.
-use Rattle.std.specs.Prelude.{◌≡◌, ℕ, List, [], ◌∷◌, Some, None, pos, codes, true, false}
+use Rattle.std.specs.Prelude.{◌≡◌, ℕ, List, [], ◌∷◌, Some, None, pos, codes, true, false, Option, ℤ}
 use Rattle.ig_text.specs.declared.class.Class.{Class}
 use Rattle.ig_text.specs.declared.pattern.Pattern.{Pattern}
 use Rattle.ig_text.specs.declared.pattern.Pattern.TheVariants as patterns
@@ -213,9 +213,16 @@ pub data ReadsDeclarations : List Token → List Decl → Type 0 where
   further_declaration : (s m : List Token) (d : Decl) (ds : List Decl) → ReadsDeclaration s m d → ReadsDeclarations m ds →
       ReadsDeclarations s (d ∷ ds)
 
--- all tokens follow the rules and read as the grammar: a start line or none, and declarations
+-- all tokens read as the line of a width of tabs or none, and declarations
+pub data ReadsBody : List Token → Option ℤ → List Decl → Type 0 where
+  with_tabs : (n : ℕ) (s : List Token) (ds : List Decl) → ReadsDeclarations s ds →
+      ReadsBody (token.Tabs ∷ Number n ∷ Semicolon ∷ s) (Some (pos n)) ds
+  without_tabs : (s : List Token) (ds : List Decl) → ReadsDeclarations s ds → ReadsBody s None ds
+
+-- all tokens follow the rules and read as the grammar: a start line or none, then the line of a width of tabs or none, and
+-- declarations
 pub data FollowsRules : List Token → Grammar → Type 0 where
-  with_start : (name : List ℕ) (s : List Token) (ds : List Decl) → ReadsDeclarations s ds →
-      FollowsRules (token.Start ∷ Name name ∷ Semicolon ∷ s) (record { start = Some name; decls = ds })
-  without_start : (s : List Token) (ds : List Decl) → ReadsDeclarations s ds →
-      FollowsRules s (record { start = None; decls = ds })
+  with_start : (name : List ℕ) (s : List Token) (tabs : Option ℤ) (ds : List Decl) → ReadsBody s tabs ds →
+      FollowsRules (token.Start ∷ Name name ∷ Semicolon ∷ s) (record { start = Some name; tabs = tabs; decls = ds })
+  without_start : (s : List Token) (tabs : Option ℤ) (ds : List Decl) → ReadsBody s tabs ds →
+      FollowsRules s (record { start = None; tabs = tabs; decls = ds })

@@ -1,11 +1,11 @@
 -- What the readers of parts of the rules promise.
-use Rattle.std.specs.Prelude.{◌≡◌, ℕ, ◌+◌, ◌<◌, List, [], ◌∷◌, ◌++◌, length, drop, map, None, codes}
+use Rattle.std.specs.Prelude.{◌≡◌, ℕ, ◌+◌, ◌<◌, List, [], ◌∷◌, ◌++◌, length, drop, map, None, codes, ℤ, pos}
 use Rattle.std.specs.Borrow.{Bor}
 use Rattle.ig_text.specs.declared.pattern.Pattern.{Pattern}
 use Rattle.ig_text.specs.Limits.{integers_end}
 use Rattle.ig_expr.specs.Expression.{Expression}
 use Rattle.ig_notation_syntax.specs.Token as token
-use Rattle.ig_notation_syntax.specs.Token.{Token, Head, Close, Equals, Semicolon}
+use Rattle.ig_notation_syntax.specs.Token.{Token, Head, Close, Equals, Semicolon, Number}
 use Rattle.ig_notation_syntax.specs.Rules.{IsFunction, ReadsTerm}
 use Rattle.ig_grammar.specs.declared.filter.Filter.{Filter}
 use Rattle.ig_notation_syntax.specs.Machine as want
@@ -30,6 +30,12 @@ pub record Stands (tokens : List Token) (i : ℕ) (t : Token) : Type 0 where
   pub there : drop i tokens ≡ t ∷ drop (i + 1) tokens
   pub within : i < length tokens
   pub place : IsPlace i
+
+-- the token of number i is that number
+pub record StandsNumber (tokens : List Token) (i : ℕ) (n : ℤ) : Type 0 where
+  pub spelled : ℕ
+  pub stands : Stands tokens i (Number spelled)
+  pub is_number : n ≡ pos spelled
 
 -- the token of number i is t, and j is the number behind it
 pub record Takes (t : Token) (tokens : List Token) (i j : ℕ) : Type 0 where

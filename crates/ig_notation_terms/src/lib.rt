@@ -41,5 +41,5 @@ pub use parts::{
     opening_at, read_group_end, read_guard, read_let, read_list_end, read_plain,
 };
 pub use repetitions::{ListSign, Repetition, read_list_sign, repeated, repetition_at, separated};
-pub use signs::{Sign, read_name, read_sign, stands_at};
+pub use signs::{Sign, read_name, read_number, read_sign, stands_at};
 pub use tokens::Tokens;

@@ -11,7 +11,9 @@ ghost use Rattle.ig_grammar.specs.Alternative.{gathered_alternatives};
 ghost use Rattle.ig_grammar.specs.View.{symbol_of};
 ghost use Rattle.ig_notation_syntax.specs.Rules.{ReadsSymbol, ReadsPost, ReadsAtom, filtered};
 ghost use Rattle.ig_notation_terms.specs.declared.repetitions.ListSign.{ListSign as SpecListSign};
-ghost use Rattle.ig_notation_terms.specs.declared.repetitions.Repetition.{Repetition as SpecRepetition};
+ghost use Rattle.ig_notation_terms.specs.declared.repetitions.Repetition.{
+  Repetition as SpecRepetition,
+};
 ghost use Rattle.ig_notation_syntax.specs.Machine as want;
 ghost use Rattle.ig_notation_syntax.specs.Machine.{after_symbol};
 ghost use Rattle.ig_notation_syntax.specs.Reading.{Goes};

@@ -3,13 +3,13 @@
 ghost use Rattle.std.specs.Prelude.{◌≡◌, true, false, chars, IfOk, IfErr, None};
 ghost use Rattle.ig_notation_syntax.specs.View.{token_of};
 ghost use Rattle.ig_notation_syntax.specs.Token as spec;
-ghost use Rattle.ig_notation_syntax.specs.Machine.{after, name};
-ghost use Rattle.ig_notation_terms.specs.Readers.{Stands, Takes, Misses, MissesAt};
+ghost use Rattle.ig_notation_syntax.specs.Machine.{after, name, numeral};
+ghost use Rattle.ig_notation_terms.specs.Readers.{Stands, StandsNumber, Takes, Misses, MissesAt};
 ghost use Rattle.ig_notation_terms.specs.Readers.{sign_token, want_of};
 
 use crate::fault::RuleFault;
 use crate::tokens::Tokens;
-use ig_notation_syntax::Token;
+use ig_notation_syntax::{Token, number_of};
 
 /// A sign that the rules ask for.
 #[derive(Clone, Copy)]
@@ -75,6 +75,24 @@ pub fn read_name<'a>(tokens: &Tokens<'a>, at: usize) -> Result<&'a str, RuleFaul
 {
     match tokens.ahead(at)? {
         Token::Name(name) => Ok(name),
+        _ => Err(RuleFault::Unexpected { token: at }),
+    }
+}
+
+/// The number that stands there, in front of the token of the next number. Refused as unexpected
+/// exactly where no number stands there. Takes no memory.
+pub fn read_number(tokens: &Tokens, at: usize) -> Result<i64, RuleFault>
+    ensures ok { IfOk result (StandsNumber tokens.now at) }
+    ensures err { IfErr result (MissesAt numeral tokens.now at) }
+{
+    match tokens.ahead(at)? {
+        Token::Number(digits) => {
+            tokens.numbers_fit();
+            match number_of(digits) {
+                Some(number) => Ok(number),
+                None => unreachable!(),
+            }
+        }
         _ => Err(RuleFault::Unexpected { token: at }),
     }
 }

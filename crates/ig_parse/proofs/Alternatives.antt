@@ -8,6 +8,7 @@ use Rattle.std.proofs.lemmas.Bool.{cases_order}
 use Rattle.std.proofs.lemmas.Bool.Decides.{nat_tests}
 use Rattle.std.proofs.lemmas.Cmp.{nat_cmp_total, int_cmp_total, tied_itself}
 use Rattle.std.proofs.lemmas.Option.{same_Some}
+use Rattle.ig_text.specs.Input.{Input}
 use Rattle.ig_text.specs.TagNumber.{number_of}
 use Rattle.ig_text.proofs.Lists.{contains_from_at}
 use Rattle.ig_text.proofs.Pairwise.{partner, key_at}
@@ -106,12 +107,12 @@ module _ (core : List Nonterminal) (rise : TagsRise core) (x y : Item) (first : 
       ]
 
 -- the environment of the item node of an alternative is that of its item
-env_there : {core : List Nonterminal} {text : List ℕ} {items : List Item} {keys : List NodeKey} (x : Item) (it : ItemNode) →
+env_there : {core : List Nonterminal} {text : Input} {items : List Item} {keys : List NodeKey} (x : Item) (it : ItemNode) →
     IsItemNode core text items keys x it → it.env ≡ x.env
 env_there x it is = ap (λ (z : Item). z.env) is.item
 
 -- what two alternatives of one node have, whose items stand one behind the other
-module _ (core : List Nonterminal) (text : List ℕ) (f : Forest) (rise : TagsRise core) (r : IsReduced core text f) (key : NodeKey)
+module _ (core : List Nonterminal) (text : Input) (f : Forest) (rise : TagsRise core) (r : IsReduced core text f) (key : NodeKey)
     (first second : Choice) (p : IsChoice core r.items key first) (q : IsChoice core r.items key second) where
   less_environment : number_of first.tag ≡ number_of second.tag → values_cmp p.item.env q.item.env ≡ Less →
       HasLessEnvironment f first second

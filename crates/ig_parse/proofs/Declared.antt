@@ -1,6 +1,7 @@
 -- The spans of a name's nodes are those of the declaration of that name.
 use Rattle.std.proofs.Common.{◌∙◌, ℕ, List, Some, sym, ap, arith}
 use Rattle.std.proofs.lemmas.Option.{same_Some}
+use Rattle.ig_text.specs.Input.{Input}
 use Rattle.ig_text.specs.Tree.{height}
 use Rattle.ig_text.specs.declared.tag.Tag.TheVariants.{Rule}
 use Rattle.ig_text.specs.declared.text.Span.{Span}
@@ -22,7 +23,7 @@ pub record Given : Type 0 where
   pub trim : ReducedIsTrim
   pub spans : SpansArePermitted
 
-module _ (given : Given) (g : Grammar) (text : List ℕ) (f : Forest) (kinded : IsWellKinded (CoreOf (unchanged g)))
+module _ (given : Given) (g : Grammar) (text : Input) (f : Forest) (kinded : IsWellKinded (CoreOf (unchanged g)))
     (is : IsForestOf (unchanged g) text f) (name : List ℕ) (span : Span) where
   -- the tag of a node in a permitted tree is that of an alternative, so its number is that of a declaration
   of_declaration : PermitsSpan (unchanged g) text name span → DeclaresSpan g text name span

@@ -1,5 +1,6 @@
 -- What a run over the core grammar says of the grammar.
 use Rattle.std.proofs.Common.{◌≡◌, ◌≢◌, ◌↔◌, ℕ, List, Contains, Option, None, Some, Result, Ok, Err, IfOk, IfErr, MatchOption, sym, ◌∙◌, subst, subst₂}
+use Rattle.ig_text.specs.Input.{Input}
 use Rattle.ig_text.specs.Tree.{Tree}
 use Rattle.ig_grammar.specs.Checked.{CheckedGrammar}
 use Rattle.ig_expr.specs.ValuedTree as valued
@@ -57,14 +58,14 @@ runs_of c inside core same kept kinded =
     subst (λ z. Runs z core) same (record { buildable = kept.0; numbered = kept.1; is = kept.2; kinded = kinded })
 
 -- a run over a work list is refused for what saturation is refused for
-pub refused : {A : Type 0} (core : List Nonterminal) (text : List ℕ) (budget : ℕ) (r : Result A RunFault) →
+pub refused : {A : Type 0} (core : List Nonterminal) (text : Input) (budget : ℕ) (r : Result A RunFault) →
     IfErr r (IsRefused core text budget) → IfErr r (Refuses core text budget)
 refused core text budget (Ok a) h = tt
 refused core text budget (Err run_fault.Budget) h = h
 refused core text budget (Err run_fault.Memory) h = tt
 
 -- what a run finds, and why it finds nothing
-module _ (c : CheckedGrammar) (text : List ℕ) (budget : ℕ) (core : List Nonterminal) (runs : Runs c core) where
+module _ (c : CheckedGrammar) (text : Input) (budget : ℕ) (core : List Nonterminal) (runs : Runs c core) where
   pub finds : (r : Result Recording RunFault) → IfOk r (λ z. z.core ≡ core) → IfOk r (λ z. z.text ≡ text) → IfOk r IsRecorded →
       IfOk r (λ _. MoreThan core text budget → ⊥) → IfErr r (Refuses core text budget) → Finds c text budget r
   finds (Ok z) core_is text_is recorded within fault =
@@ -89,16 +90,16 @@ runs_recorded c core other runs is =
     }
 
 -- the items are those of the core grammar that a parser keeps
-pub reached_inside : (c : CheckedGrammar) (text : List ℕ) (core : List Nonterminal) → Runs c core → (t : Tables) → AreReachable c text t →
+pub reached_inside : (c : CheckedGrammar) (text : Input) (core : List Nonterminal) → Runs c core → (t : Tables) → AreReachable c text t →
     (x : Item) → Contains (items_of t) x ↔ Reachable core text x
 reached_inside c text core runs t reached = subst (λ z. (x : Item) → Contains (items_of t) x ↔ Reachable z text x) (sym runs.is) reached
 
-pub reported : (c : CheckedGrammar) (text : List ℕ) (core : List Nonterminal) → Runs c core → {E : Type 0} (r : Result Report E) →
+pub reported : (c : CheckedGrammar) (text : Input) (core : List Nonterminal) → Runs c core → {E : Type 0} (r : Result Report E) →
     IfOk r (IsReport core text) → IfOk r (IsReport (CoreOf c) text)
 reported c text core runs (Ok report) is = subst (λ z. IsReport z text report) runs.is is
 reported c text core runs (Err e) is = tt
 
-module _ (law : Given) (c : CheckedGrammar) (text : List ℕ) (core : List Nonterminal) (runs : Runs c core) where
+module _ (law : Given) (c : CheckedGrammar) (text : Input) (core : List Nonterminal) (runs : Runs c core) where
   kinded : IsWellKinded (CoreOf c)
   kinded = subst IsWellKinded runs.is runs.kinded
 
@@ -166,7 +167,7 @@ module _ (law : Given) (c : CheckedGrammar) (text : List ℕ) (core : List Nonte
   may_have_forest (Err e) is = tt
 
 -- the parts of an answer
-module _ (c : CheckedGrammar) (text : List ℕ) (budget : ℕ) where
+module _ (c : CheckedGrammar) (text : Input) (budget : ℕ) where
   pub no_items : (e : RunFault) (fault : ParseFault) → Finds c text budget (Err e) → fault ≡ fault_of e → HasNone c text budget fault
   no_items run_fault.Budget fault over is = subst (HasNone c text budget) (sym is) over
   no_items run_fault.Memory fault over is = subst (HasNone c text budget) (sym is) tt

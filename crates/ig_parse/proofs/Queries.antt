@@ -2,6 +2,7 @@
 use Rattle.std.proofs.Common.{◌≡◌, ◌↔◌, ◌⊎◌, ⊎_elim, inl, inr, ℕ, zero, suc, ◌+◌, List, [], ◌∷◌, Some, slice_get, true, false, if◌then◌else◌, refl, sym, ap, ◌∙◌, subst, arith}
 use Rattle.std.specs.Prelude.{◌==◌}
 use Rattle.std.proofs.lemmas.Option.{same_Some}
+use Rattle.ig_text.specs.Input.{Input}
 use Rattle.ig_text.specs.Tree.{height}
 use Rattle.ig_text.specs.declared.tag.Tag.{Tag}
 use Rattle.ig_text.specs.declared.tag.Tag.TheVariants as tag
@@ -22,7 +23,7 @@ use Rattle.ig_query.specs.Spans.{IsRule}
 use Rattle.ig_parse.specs.Laws.{AmbiguityIsTwoPermitted, CyclicIsWithoutHighest, PermitsTwo, SpansArePermitted}
 use Rattle.ig_parse.specs.Parses.{IsForestOf}
 
-two_permitted : (c : CheckedGrammar) (text : List ℕ) (f : Forest) → IsForestOf c text f → HasTwoTrees f ↔ PermitsTwo c text
+two_permitted : (c : CheckedGrammar) (text : Input) (f : Forest) → IsForestOf c text f → HasTwoTrees f ↔ PermitsTwo c text
 two_permitted c text f is = (
   λ h.
       record {

@@ -1,5 +1,5 @@
 -- Grammars whose forests are never cyclic.
-use Rattle.std.specs.Prelude.{ℕ, List}
+use Rattle.ig_text.specs.Input.{Input}
 use Rattle.ig_grammar.specs.Checked.{CheckedGrammar}
 use Rattle.ig_core.specs.Lowered.{CoreOf, IsBuildable, IsNumbered}
 use Rattle.ig_forest_tables.specs.Forest.{Forest}
@@ -11,4 +11,4 @@ use Rattle.ig_analyse.specs.Laws.{NoneGoesRound}
 abbrev pub ForestsAreNotCyclic : Type 0
 ForestsAreNotCyclic =
     (c : CheckedGrammar) → IsBuildable c → IsNumbered c → NoneGoesRound (CoreOf c) →
-    (text : List ℕ) (f : Forest) → IsForestOf c text f → IsCyclic f → ⊥
+    (text : Input) (f : Forest) → IsForestOf c text f → IsCyclic f → ⊥

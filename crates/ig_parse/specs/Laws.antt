@@ -1,6 +1,7 @@
 -- What queries of a forest say of the permitted trees.
 use Rattle.std.specs.Prelude.{◌≡◌, ◌↔◌, ◌⊎◌, ℕ, ◌<◌, List, Some, slice_get}
 use Rattle.std.specs.declared.cmp.Ordering.TheVariants.{Less}
+use Rattle.ig_text.specs.Input.{Input}
 use Rattle.ig_text.specs.TagNumber.{number_of}
 use Rattle.ig_text.specs.Tree.{Tree, height}
 use Rattle.ig_text.specs.declared.tag.Tag.TheVariants.{Rule}
@@ -25,7 +26,7 @@ use Rattle.ig_query.specs.Spans.{HasSpan}
 use Rattle.ig_parse.specs.Parses.{IsForestOf}
 
 -- two different trees are permitted
-pub record PermitsTwo (c : CheckedGrammar) (text : List ℕ) : Type 0 where
+pub record PermitsTwo (c : CheckedGrammar) (text : Input) : Type 0 where
   pub first : Tree
   pub second : Tree
   pub first_permitted : Permitted c.grammar c.shapes text first
@@ -35,16 +36,16 @@ pub record PermitsTwo (c : CheckedGrammar) (text : List ℕ) : Type 0 where
 -- a forest has an ambiguous node exactly where two different trees are permitted
 abbrev pub AmbiguityIsTwoPermitted : Type 0
 AmbiguityIsTwoPermitted =
-    (c : CheckedGrammar) (text : List ℕ) (f : Forest) → IsTrim f → IsForestOf c text f → IsAmbiguous f ↔ PermitsTwo c text
+    (c : CheckedGrammar) (text : Input) (f : Forest) → IsTrim f → IsForestOf c text f → IsAmbiguous f ↔ PermitsTwo c text
 
 -- for each number a higher tree is permitted
-abbrev pub HasNoHighest : CheckedGrammar → List ℕ → Type 0
+abbrev pub HasNoHighest : CheckedGrammar → Input → Type 0
 HasNoHighest c text = (h : ℕ) → (t : Tree) × Permitted c.grammar c.shapes text t × (h < height t)
 
 -- a forest is cyclic exactly where for each number a higher tree is permitted
 abbrev pub CyclicIsWithoutHighest : Type 0
 CyclicIsWithoutHighest =
-    (c : CheckedGrammar) (text : List ℕ) (f : Forest) → IsForestOf c text f → IsCyclic f ↔ HasNoHighest c text
+    (c : CheckedGrammar) (text : Input) (f : Forest) → IsForestOf c text f → IsCyclic f ↔ HasNoHighest c text
 
 -- both alternatives have one tag number, and the item of the first one has the lesser environment
 pub record HasLessEnvironment (f : Forest) (first second : Choice) : Type 0 where
@@ -58,13 +59,13 @@ pub record HasLessEnvironment (f : Forest) (first second : Choice) : Type 0 wher
 -- of two alternatives of a node the former one has the lesser tag number, or under one number the lesser environment
 abbrev pub AlternativesRiseByTags : Type 0
 AlternativesRiseByTags =
-    (c : CheckedGrammar) (text : List ℕ) (f : Forest) → IsBuildable c → IsNumbered c → IsForestOf c text f →
+    (c : CheckedGrammar) (text : Input) (f : Forest) → IsBuildable c → IsNumbered c → IsForestOf c text f →
     (v i j : ℕ) (node : Node) (first second : Choice) → slice_get f.nodes v ≡ Some node →
     slice_get node.alternatives i ≡ Some first → slice_get node.alternatives j ≡ Some second → i < j →
     (number_of first.tag < number_of second.tag) ⊎ HasLessEnvironment f first second
 
 -- a permitted tree has a node of a declaration of that name with that span
-pub record PermitsSpan (c : CheckedGrammar) (text name : List ℕ) (span : Span) : Type 0 where
+pub record PermitsSpan (c : CheckedGrammar) (text : Input) (name : List ℕ) (span : Span) : Type 0 where
   pub tree : Tree
   pub permitted : Permitted c.grammar c.shapes text tree
   pub nonterminal : ℕ
@@ -75,11 +76,11 @@ pub record PermitsSpan (c : CheckedGrammar) (text name : List ℕ) (span : Span)
 -- the spans of a declaration's nodes in a forest are exactly those in permitted trees
 abbrev pub SpansArePermitted : Type 0
 SpansArePermitted =
-    (c : CheckedGrammar) (text : List ℕ) (f : Forest) (name : List ℕ) (span : Span) → IsWellKinded (CoreOf c) →
+    (c : CheckedGrammar) (text : Input) (f : Forest) (name : List ℕ) (span : Span) → IsWellKinded (CoreOf c) →
     IsForestOf c text f → HasSpan f name span ↔ PermitsSpan c text name span
 
 -- a permitted tree of the grammar as it is written has a node of the declaration of that name with that span
-pub record DeclaresSpan (g : Grammar) (text name : List ℕ) (span : Span) : Type 0 where
+pub record DeclaresSpan (g : Grammar) (text : Input) (name : List ℕ) (span : Span) : Type 0 where
   pub tree : Tree
   pub permitted : Permitted g (as_written g) text tree
   pub number : ℕ
@@ -93,5 +94,5 @@ pub record DeclaresSpan (g : Grammar) (text name : List ℕ) (span : Span) : Typ
 -- permitted trees; so names that no declaration has, as that of the root, have none
 abbrev pub SpansAreOfDeclarations : Type 0
 SpansAreOfDeclarations =
-    (g : Grammar) (text : List ℕ) (f : Forest) (name : List ℕ) (span : Span) → IsWellKinded (CoreOf (unchanged g)) →
+    (g : Grammar) (text : Input) (f : Forest) (name : List ℕ) (span : Span) → IsWellKinded (CoreOf (unchanged g)) →
     IsForestOf (unchanged g) text f → HasSpan f name span ↔ DeclaresSpan g text name span

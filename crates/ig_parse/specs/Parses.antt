@@ -1,5 +1,6 @@
 -- What parsing a text with a checked grammar gives: the main theorem.
 use Rattle.std.specs.Prelude.{ℕ, ◌<◌, ◌≤◌, ◌↔◌, ◌≡◌, List, Contains, Option, None, Some, Result, Ok, Err}
+use Rattle.ig_text.specs.Input.{Input}
 use Rattle.ig_text.specs.Tree.{Tree, height}
 use Rattle.ig_grammar.specs.Checked.{CheckedGrammar}
 use Rattle.ig_meaning.specs.Order.{Precedes}
@@ -21,7 +22,7 @@ use Rattle.ig_query.specs.Report.{IsReport}
 use Rattle.ig_parse.specs.declared.fault.ParseFault.{ParseFault}
 use Rattle.ig_parse.specs.declared.fault.ParseFault.TheVariants.{TooManyDots, Budget, NoParse, Memory}
 
-module _ (c : CheckedGrammar) (text : List ℕ) where
+module _ (c : CheckedGrammar) (text : Input) where
   -- a tree is permitted
   abbrev pub IsParsed : Type 0
   IsParsed = (t : Tree) × Permitted c.grammar c.shapes text t

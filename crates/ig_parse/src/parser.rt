@@ -1,6 +1,8 @@
 //! Parsers of one grammar.
 ghost use Rattle.std.specs.Prelude.{◌≡◌, ◌≢◌, ◌<◌, ◌≤◌, IfErr, IfOk};
 ghost use Rattle.ig_core.specs.Lowered.{CoreOf, IsBuildable, IsNumbered};
+ghost use Rattle.ig_text.specs.Input.{IsTabWidth};
+ghost use Rattle.ig_grammar.specs.Tabs.{tab_width};
 ghost use Rattle.ig_item.specs.Core.{dots};
 ghost use Rattle.ig_item.specs.Limits.{most_dots};
 ghost use Rattle.ig_core.specs.declared.fault.CoreFault.TheVariants as core_fault;
@@ -81,6 +83,15 @@ impl<'g> Parser<'g> {
         ensures { result.now ≡ self.now }
     {
         self.grammar
+    }
+
+    /// The width of tabs that the grammar says, from 1 to 16; 1 where it says none. Takes no
+    /// memory.
+    pub fn tab_width(&self) -> u32
+        ensures width { result ≡ tab_width self.now.grammar.tabs }
+        ensures allowed { IsTabWidth result }
+    {
+        self.grammar.tab_width()
     }
 
     /// The core grammar. Takes no memory.

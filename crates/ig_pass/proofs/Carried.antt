@@ -1,5 +1,6 @@
 -- What is derived in one grammar is derived in another that has the called declarations, unchanged and in their places.
 use Rattle.std.proofs.Common.{◌≡◌, ◌∙◌, ℕ, List, Some, sym}
+use Rattle.ig_text.specs.Input.{Input}
 use Rattle.ig_text.specs.Tree.{Tree, Trees}
 use Rattle.ig_expr.specs.declared.value.Value.{Value}
 use Rattle.ig_grammar.specs.Symbol.{Symbol}
@@ -14,7 +15,7 @@ use Rattle.ig_meaning.specs.Derivation.{empty, symbol, literal, one_of, token, c
 use Rattle.ig_meaning.specs.Derivation.{nil, snoc, one_item, more_items, first_item, further_item, no_item, some_items, bare, with_filters, alternative, layout, no_layout, outside}
 use Rattle.ig_pass.proofs.CallsOnly.{CallsOnly, EachCallsOnly, each_listed, chosen}
 
-module _ (g : Grammar) (shapes : List Shape) (other : Grammar) (forms : List Shape) (text : List ℕ) (Named : List ℕ → Type 0)
+module _ (g : Grammar) (shapes : List Shape) (other : Grammar) (forms : List Shape) (text : Input) (Named : List ℕ → Type 0)
     (moves : (name : List ℕ) (d : ℕ) (decl : Decl) (s : Shape) → Named name → Declares g shapes name d decl s → Declares other forms name d decl s)
     (calls : (name : List ℕ) (d : ℕ) (decl : Decl) (s : Shape) (k : ℕ) (a : Levelled) → Named name → Declares g shapes name d decl s →
     IsAlternative decl k a → EachCallsOnly Named a.alternative.symbols)

@@ -1,5 +1,6 @@
 -- What is bound in one grammar is bound in another that has the called declarations, unchanged and in their places.
 use Rattle.std.proofs.Common.{◌≡◌, ◌∙◌, ℕ, List, Some, sym}
+use Rattle.ig_text.specs.Input.{Input}
 use Rattle.ig_text.specs.declared.tag.Tag.{Tag}
 use Rattle.ig_expr.specs.ValuedTree.{Tree, Trees}
 use Rattle.ig_expr.specs.declared.value.Value.{Value}
@@ -34,7 +35,7 @@ module _ (Named : List ℕ → Type 0) where
   round_calls a.align n = n
   round_calls (a.filtered filters) n = n
 
-module _ (g : Grammar) (shapes : List Shape) (other : Grammar) (forms : List Shape) (text : List ℕ) (Named : List ℕ → Type 0)
+module _ (g : Grammar) (shapes : List Shape) (other : Grammar) (forms : List Shape) (text : Input) (Named : List ℕ → Type 0)
     (moves : (name : List ℕ) (d : ℕ) (decl : Decl) (s : Shape) → Named name → Declares g shapes name d decl s → Declares other forms name d decl s)
     (calls : (name : List ℕ) (d : ℕ) (decl : Decl) (s : Shape) (k : ℕ) (a : Levelled) → Named name → Declares g shapes name d decl s →
     IsAlternative decl k a → EachCallsOnly Named a.alternative.symbols)

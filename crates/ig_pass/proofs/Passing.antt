@@ -5,6 +5,7 @@ use Rattle.std.proofs.lemmas.List.{map-append, take-map, take-append-le}
 use Rattle.std.proofs.lemmas.List.Elements.{Contains-append_cases}
 use Rattle.std.proofs.lemmas.List.Sums.{sum_by-append, sum_by-cons}
 use Rattle.std.proofs.lemmas.Option.{same_Some, slice_get_within}
+use Rattle.ig_grammar.specs.Tabs.{says_bad_width}
 use Rattle.ig_text.proofs.Lists.{at_from_contains, contains_from_at, contains_first, contains_later, contains_one, none_in_nil, get_within, in_take, within_take, left_at, sides, mapped_at}
 use Rattle.ig_text.proofs.Booleans.{not_both}
 use Rattle.ig_text.proofs.Differing.{not_before, all_differ, both_differ}
@@ -153,6 +154,8 @@ module _ (later : List (List ℕ)) (g h : Grammar) (scoped : IsWellScoped g) (ma
   start_there : (c : Condition) → StartMeets h c → ⊥
   start_there c (meets.no_start none) =
       scoped (record { decl = 0; alt = 0; symbol = 0 }) meets.NoStart (meets.no_start (sym makes.start ∙ none))
+  start_there c (meets.bad_tabs bad) =
+      scoped (record { decl = 0; alt = 0; symbol = 0 }) meets.BadTabs (meets.bad_tabs (ap says_bad_width (sym makes.tabs) ∙ bad))
   start_there c (meets.unknown_start name started none) = go (declaration_of g.decls name) refl
     where
       go : (o : Option Decl) → declaration_of g.decls name ≡ o → ⊥

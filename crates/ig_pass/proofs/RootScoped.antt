@@ -97,6 +97,7 @@ module _ (g : Grammar) (scoped : IsWellScoped g) (fresh : IsFresh g root_name) w
       let same : root_name ≡ name = cc in
       let f : None ≡ Some r = sym none ∙ ap (declaration_of h.decls) (sym same) ∙ root_declared in cc
   start_fine c (meets.no_start none) = cc
+  start_fine c (meets.bad_tabs bad) = scoped (record { decl = 0; alt = 0; symbol = 0 }) meets.BadTabs (meets.bad_tabs bad)
   start_fine c (meets.start_has_parameters name decl started found some) =
       let same : root_name ≡ name = cc in
       let f : Some decl ≡ Some r = sym found ∙ ap (declaration_of h.decls) (sym same) ∙ root_declared in

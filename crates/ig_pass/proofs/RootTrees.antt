@@ -3,6 +3,7 @@ use Rattle.std.proofs.Common.{◌≡◌, ◌∙◌, ℕ, zero, suc, List, [], �
 use Rattle.std.specs.Prelude.{◌⊎◌, slice_get, Contains}
 use Rattle.std.proofs.lemmas.Option.{slice_get_within}
 use Rattle.std.proofs.lemmas.List.Elements.{Contains-push}
+use Rattle.ig_text.specs.Input.{Input}
 use Rattle.ig_text.specs.declared.tag.Tag.{Tag}
 use Rattle.ig_text.specs.Tree.{Tree, Trees}
 use Rattle.ig_expr.specs.ValuedTree as valued
@@ -99,11 +100,11 @@ module _ (c : CheckedGrammar) (scoped : IsWellScoped c.grammar) (fit : FitShapes
       IsAlternative decl k a → EachCallsOnly IsOther a.alternative.symbols
   called_in name d decl s k a other declares numbered = calls_others g scoped fresh declares.numbered.0 k decl a declares.numbered.2 numbered
 
-  covers_there : (text : List ℕ) {k : DeclKind} {xs : List Symbol} {env after : Environment} {i j : ℕ} {ts : Trees} {starts : List ℕ} →
+  covers_there : (text : Input) {k : DeclKind} {xs : List Symbol} {env after : Environment} {i j : ℕ} {ts : Trees} {starts : List ℕ} →
       EachCallsOnly IsOther xs → Covers g shapes text k xs env i j ts after starts → Covers h forms text k xs env i j ts after starts
   covers_there text = covers_too g shapes h forms text IsOther there called_in same_layout (layout_other g scoped fresh)
 
-  covers_here : (text : List ℕ) {k : DeclKind} {xs : List Symbol} {env after : Environment} {i j : ℕ} {ts : Trees} {starts : List ℕ} →
+  covers_here : (text : Input) {k : DeclKind} {xs : List Symbol} {env after : Environment} {i j : ℕ} {ts : Trees} {starts : List ℕ} →
       EachCallsOnly IsOther xs → Covers h forms text k xs env i j ts after starts → Covers g shapes text k xs env i j ts after starts
   covers_here text =
       covers_too h forms g shapes text IsOther here
@@ -182,10 +183,10 @@ module _ (c : CheckedGrammar) (scoped : IsWellScoped c.grammar) (fit : FitShapes
   written_out : IsRootAlternative h forms Syntax (root_symbols g)
   written_out = declared root_name (suc (length g.decls)) r root_by Syntax (root_symbols g) refl root_there (0, refl, refl) refl refl
 
-  permitted_there : (text : List ℕ) (t : Tree) → Permitted g shapes text t → Permitted h forms text t
+  permitted_there : (text : Input) (t : Tree) → Permitted g shapes text t → Permitted h forms text t
   permitted_there text t p = go p.kind p.symbols p.root p.covered
     where
-      go : (kind : DeclKind) (xs : List Symbol) → IsRootAlternative g shapes kind xs → Covers g shapes text kind xs [] 0 (length text) p.children p.after p.starts → Permitted h forms text t
+      go : (kind : DeclKind) (xs : List Symbol) → IsRootAlternative g shapes kind xs → Covers g shapes text kind xs [] 0 (length text.characters) p.children p.after p.starts → Permitted h forms text t
       go kind xs (written start _ started unrooted same) covered =
           let e : xs ≡ root_symbols g = same ∙ ap (λ s. behind_layout (layout_among g.decls) (calls_of_start s)) (sym started) in
           record {
@@ -195,7 +196,7 @@ module _ (c : CheckedGrammar) (scoped : IsWellScoped c.grammar) (fit : FitShapes
             after = p.after;
             starts = p.starts;
             root = written_out;
-            covered = covers_there text symbols_others (subst (λ ys. Covers g shapes text Syntax ys [] 0 (length text) p.children p.after p.starts) e covered);
+            covered = covers_there text symbols_others (subst (λ ys. Covers g shapes text Syntax ys [] 0 (length text.characters) p.children p.after p.starts) e covered);
             whole = p.whole;
             clean = cleaned g h ends_here begins_here t p.clean;
           }
@@ -213,10 +214,10 @@ module _ (c : CheckedGrammar) (scoped : IsWellScoped c.grammar) (fit : FitShapes
   some_start None e = absurd (scoped (record { decl = 0; alt = 0; symbol = 0 }) condition.NoStart (condition.no_start e))
   some_start (Some start) e = (start, e)
 
-  permitted_here : (text : List ℕ) (t : Tree) → Permitted h forms text t → Permitted g shapes text t
+  permitted_here : (text : Input) (t : Tree) → Permitted h forms text t → Permitted g shapes text t
   permitted_here text t p = go p.kind p.symbols p.root p.covered
     where
-      from : Covers h forms text Syntax (root_symbols g) [] 0 (length text) p.children p.after p.starts → Permitted g shapes text t
+      from : Covers h forms text Syntax (root_symbols g) [] 0 (length text.characters) p.children p.after p.starts → Permitted g shapes text t
       from covered =
           let started = some_start g.start refl in
           record {
@@ -231,7 +232,7 @@ module _ (c : CheckedGrammar) (scoped : IsWellScoped c.grammar) (fit : FitShapes
             clean = cleaned h g ends_there begins_there t p.clean;
           }
 
-      go : (kind : DeclKind) (xs : List Symbol) → IsRootAlternative h forms kind xs → Covers h forms text kind xs [] 0 (length text) p.children p.after p.starts → Permitted g shapes text t
+      go : (kind : DeclKind) (xs : List Symbol) → IsRootAlternative h forms kind xs → Covers h forms text kind xs [] 0 (length text.characters) p.children p.after p.starts → Permitted g shapes text t
       go kind xs (written start _ started unrooted same) covered =
           absurd (unrooted (suc (length g.decls)) r (subst (λ s. Declares h forms s (suc (length g.decls)) r shape.Root) (cc) root_there))
       go kind xs (declared start d decl a _ _ started declares numbered same symbols) covered =
@@ -239,16 +240,16 @@ module _ (c : CheckedGrammar) (scoped : IsWellScoped c.grammar) (fit : FitShapes
           let root = is_the_root d decl (subst (λ s. Declares h forms s d decl shape.Root) (sym named) declares) in
           let e : kind ≡ Syntax = same ∙ ap (λ z. z.kind) (sym root) in
           let f = symbols ∙ only_alternative Syntax g 1 a (subst (λ z. IsAlternative z 1 a) (sym root) numbered) in
-          from (subst (λ k. Covers h forms text k (root_symbols g) [] 0 (length text) p.children p.after p.starts) e
-          (subst (λ ys. Covers h forms text kind ys [] 0 (length text) p.children p.after p.starts) f covered))
+          from (subst (λ k. Covers h forms text k (root_symbols g) [] 0 (length text.characters) p.children p.after p.starts) e
+          (subst (λ ys. Covers h forms text kind ys [] 0 (length text.characters) p.children p.after p.starts) f covered))
 
   pub rooted_permits_same : PermitSame c (with_root Syntax c)
   rooted_permits_same = record { same = λ text t. (permitted_there text t, permitted_here text t) }
 
-  annotates_there : (text : List ℕ) (t : Tree) (u : valued.Tree) → Annotates g shapes text t u → Annotates h forms text t u
+  annotates_there : (text : Input) (t : Tree) (u : valued.Tree) → Annotates g shapes text t u → Annotates h forms text t u
   annotates_there text t u a = go a.kind a.symbols a.root a.binds
     where
-      go : (kind : DeclKind) (xs : List Symbol) → IsRootAlternative g shapes kind xs → Bind g shapes text kind xs [] 0 (length text) a.children a.after → Annotates h forms text t u
+      go : (kind : DeclKind) (xs : List Symbol) → IsRootAlternative g shapes kind xs → Bind g shapes text kind xs [] 0 (length text.characters) a.children a.after → Annotates h forms text t u
       go kind xs (written start _ started unrooted same) binds =
           let e : xs ≡ root_symbols g = same ∙ ap (λ s. behind_layout (layout_among g.decls) (calls_of_start s)) (sym started) in
           record {
@@ -258,7 +259,7 @@ module _ (c : CheckedGrammar) (scoped : IsWellScoped c.grammar) (fit : FitShapes
             after = a.after;
             root = written_out;
             binds = bind_too g shapes h forms text IsOther there called_in same_layout (layout_other g scoped fresh) symbols_others
-                (subst (λ ys. Bind g shapes text Syntax ys [] 0 (length text) a.children a.after) e binds);
+                (subst (λ ys. Bind g shapes text Syntax ys [] 0 (length text.characters) a.children a.after) e binds);
             whole = a.whole;
             same = a.same;
           }

@@ -84,6 +84,8 @@ pub record Remakes (later : List (List ℕ)) (g h : Grammar) : Type 0 where
   pub apart : AreDistinct (names added)
   -- the start stays, and gets no parameters
   pub start : h.start ≡ g.start
+  -- so does the width of tabs
+  pub tabs : h.tabs ≡ g.tabs
   pub bare : (k : ℕ) (d e : Decl) → slice_get g.decls k ≡ Some d → slice_get remade k ≡ Some e → g.start ≡ Some d.name →
       e.params ≡ d.params
 

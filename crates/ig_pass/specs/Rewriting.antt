@@ -51,4 +51,4 @@ rewritten_declaration own decl =
     record { kind = decl.kind; name = decl.name; params = decl.params; levels = map (rewritten_level (own decl)) decl.levels }
 
 abbrev pub rewritten_grammar : (Decl → Symbol → Symbol) → Grammar → Grammar
-rewritten_grammar own g = record { start = g.start; decls = map (rewritten_declaration own) g.decls }
+rewritten_grammar own g = record { start = g.start; tabs = g.tabs; decls = map (rewritten_declaration own) g.decls }

@@ -37,7 +37,7 @@ root_declaration kind g =
     }
 
 abbrev pub rooted_grammar : DeclKind → Grammar → Grammar
-rooted_grammar kind g = record { start = Some root_name; decls = g.decls ++ root_declaration kind g ∷ [] }
+rooted_grammar kind g = record { start = Some root_name; tabs = g.tabs; decls = g.decls ++ root_declaration kind g ∷ [] }
 
 abbrev pub is_root : Shape → Bool
 is_root Root = true

@@ -248,7 +248,11 @@ pub fn rewrite_grammar<O: OwnRule>(
         push_declaration(&mut decls, rewrite_declaration(own, alloc, decl)?)?;
     }
     let start = copy_of_start(alloc, &grammar.start)?;
-    Ok(Grammar { start, decls })
+    Ok(Grammar {
+        start,
+        tabs: grammar.tabs,
+        decls,
+    })
 }
 
 /// The declaration, each symbol of which is rewritten.

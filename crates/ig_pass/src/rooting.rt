@@ -83,7 +83,11 @@ fn copy_of_grammar(alloc: Global, grammar: &Grammar) -> Result<Grammar, AllocErr
 {
     let start = copy_of_start(alloc, &grammar.start)?;
     let decls = grammar.decls.copy(alloc)?;
-    Ok(Grammar { start, decls })
+    Ok(Grammar {
+        start,
+        tabs: grammar.tabs,
+        decls,
+    })
 }
 
 /// The grammar with its root alternative as the last declaration.
@@ -92,7 +96,11 @@ fn rooted_grammar(alloc: Global, grammar: &Grammar) -> Result<Grammar, AllocErro
 {
     let start = root_start(alloc)?;
     let decls = rooted_declarations(alloc, grammar)?;
-    Ok(Grammar { start, decls })
+    Ok(Grammar {
+        start,
+        tabs: grammar.tabs,
+        decls,
+    })
 }
 
 /// The declarations, with that which stands for the root as the last one.

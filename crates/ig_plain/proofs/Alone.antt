@@ -2,6 +2,7 @@
 use Rattle.std.proofs.Common.{◌≡◌, ⊎_elim, inl, ℕ, suc, ◌+◌, ◌<◌, ◌≤◌, List, Some, Option, map, Contains, refl, sym, ap, ◌∙◌, subst, arith, slice_get}
 use Rattle.std.proofs.lemmas.List.Elements.{Contains-append_left}
 use Rattle.std.specs.Prelude.{Result, Ok, Err, MatchResult}
+use Rattle.ig_text.specs.Input.{Input}
 use Rattle.ig_text.specs.declared.pattern.Pattern.{Pattern}
 use Rattle.ig_text.proofs.Lists.{same_map}
 use Rattle.ig_item.specs.Step.{Step}
@@ -27,7 +28,7 @@ use Rattle.ig_plain.proofs.Waiters.{Keeps, waits_alone}
 use Rattle.ig_plain.proofs.Completes.{keeps_grown, firsts_kept}
 use Rattle.ig_plain.proofs.Growth.{instance_kept}
 
-module _ (core : List Nonterminal) (text : List ℕ) (law : ReachableIsClosed) (budget p k : ℕ) (s : Found) (w : Waiting) (item : stored.Item)
+module _ (core : List Nonterminal) (text : Input) (law : ReachableIsClosed) (budget p k : ℕ) (s : Found) (w : Waiting) (item : stored.Item)
     (here : item.position ≡ p) (r : IsRun core text budget p k s w) (at : slice_get s.here.items k ≡ Some item) where
   abbrev it : Item
   it = means s item
@@ -113,13 +114,13 @@ stands_at core it n step other law of there same =
     (law core it other).1 (ap (λ (z : ℕ). step_at core z it.alternative it.dot) (sym of) ∙ there ∙ ap Some same)
 
 -- the item that is taken next is reachable
-pub next_reachable : (core : List Nonterminal) (text : List ℕ) (budget p k : ℕ) (s : Found) (w : Waiting) (item : stored.Item) →
+pub next_reachable : (core : List Nonterminal) (text : Input) (budget p k : ℕ) (s : Found) (w : Waiting) (item : stored.Item) →
     IsRun core text budget p k s w → slice_get s.here.items k ≡ Some item → Reachable core text (means s item)
 next_reachable core text budget p k s w item r at =
     r.taking.reachable (means s item) (Contains-append_left (found_in s) (later_in s) (means s item) (item_found s k item at))
 
 -- one more is taken
-pub taken_next : (core : List Nonterminal) (text : List ℕ) (budget p q k : ℕ) (t : Found) (w : Waiting) (result : Result (Unit {0}) RunFault) → q ≡ p →
+pub taken_next : (core : List Nonterminal) (text : Input) (budget p q k : ℕ) (t : Found) (w : Waiting) (result : Result (Unit {0}) RunFault) → q ≡ p →
     IsTaken core text budget q k t w result → MatchResult result (λ u. IsRun core text budget p (k + 1) t w) (Refuses core text budget)
 taken_next core text budget p q k t w (Ok u) e r =
     let n : suc k ≡ k + 1 = omega arith in

@@ -5,6 +5,7 @@ use Rattle.std.proofs.lemmas.Option.{slice_get_within}
 use Rattle.std.proofs.Math.Seq.{take-length}
 use Rattle.std.proofs.lemmas.Bool.{cases_lt}
 use Rattle.std.proofs.lemmas.List.Elements.{Contains-append_left, Contains-append_right, Contains-append_cases}
+use Rattle.ig_text.specs.Input.{Input}
 use Rattle.ig_text.proofs.Differing.{both_differ, pushed_differ}
 use Rattle.ig_text.proofs.Lists.{at_from_contains, left_at, right_at, contains_one, none_in_nil, mapped_in, unmapped_in, same_map}
 use Rattle.ig_run_moves.specs.Tables.{IsNamed, item_by}
@@ -110,7 +111,7 @@ arrives_with position a b empty none envs keys done p =
       count = let l = p.count in let e = ap length none in omega (arith, l, e);
     }
 
-module _ (core : List Nonterminal) (text : List ℕ) (budget p : ℕ) (a b : Found) (w : Waiting) (r : IsRun core text budget p (length a.here.items) a w)
+module _ (core : List Nonterminal) (text : Input) (budget p : ℕ) (a b : Found) (w : Waiting) (r : IsRun core text budget p (length a.here.items) a w)
     (m : ArrivesWith (p + 1) a b) where
   pub same : (x : stored.Item) → means b x ≡ means a x
   same x =

@@ -3,6 +3,7 @@ use Rattle.std.proofs.Common.{◌≡◌, ◌⊎◌, ⊎_elim, inl, inr, ℕ, ◌
 use Rattle.std.proofs.lemmas.List.{append-nil, map-append, length-map, length-take-le, take_all, take_more_set}
 use Rattle.std.proofs.lemmas.Option.{slice_get_within}
 use Rattle.std.proofs.lemmas.List.Elements.{Contains-append_cases}
+use Rattle.ig_text.specs.Input.{Input}
 use Rattle.ig_text.proofs.Lists.{at_from_contains, among_all, contains_from_at, contains_one, right_at, sides, take_at, same_map, unmapped_at, mapped_at}
 use Rattle.ig_item.specs.Items.{Item}
 use Rattle.ig_item.specs.Ways as ways
@@ -230,7 +231,7 @@ module _ (position : ℕ) (later left : List stored.Item) (prevs numbers : List 
             (trail_kept (take i later) (take i prevs) here after v w (take kept left) (take kept numbers) item prev same_length p.trail)));
       }
 
-module _ (core : List Nonterminal) (text : List ℕ) (budget p : ℕ) (a b : Found) (w : Waiting) (t u : Trail)
+module _ (core : List Nonterminal) (text : Input) (budget p : ℕ) (a b : Found) (w : Waiting) (t u : Trail)
     (r : IsRun core text budget p (length a.here.items) a w) (m : ArrivesWith (p + 1) a b) (o : ArrivesOn a b t u)
     (h : HasTrail core text p (length a.here.items) a w t) (cleared : u.returned ≡ []) where
   abbrev known : List Item

@@ -3,6 +3,7 @@ use Rattle.std.proofs.Common.{◌≡◌, ℕ, suc, ◌<◌, ◌≤◌, List, Som
 use Rattle.std.specs.Prelude.{Bool, Result, Ok, Err, None, slice_index_or, option_map}
 use Rattle.std.proofs.lemmas.Option.{slice_get_within, slice_get-map}
 use Rattle.std.proofs.lemmas.List.{length-set}
+use Rattle.ig_text.specs.Input.{Input}
 use Rattle.ig_text.specs.declared.pattern.Pattern.{Pattern}
 use Rattle.ig_text.proofs.Lists.{contains_from_at}
 use Rattle.ig_expr.specs.Expression.{Expression}
@@ -38,7 +39,7 @@ use Rattle.ig_plain.proofs.Moving.{Moved, moved_named, moved_means}
 use Rattle.ig_plain.proofs.Instances.{run_moved}
 use Rattle.ig_plain.proofs.Calls.{calls_only, calls_past, last_there}
 
-module _ (core : List Nonterminal) (text : List ℕ) (law : ReachableIsClosed) (inside : ItemsAreInText) (budget p k : ℕ) (s : Found) (w : Waiting) (item : stored.Item)
+module _ (core : List Nonterminal) (text : Input) (law : ReachableIsClosed) (inside : ItemsAreInText) (budget p k : ℕ) (s : Found) (w : Waiting) (item : stored.Item)
     (here : item.position ≡ p) (r : IsRun core text budget p k s w) (at : slice_get s.here.items k ≡ Some item) (names : List (List ℕ)) (nonterminal : ℕ)
     (arguments : List Expression) (label : Option (List ℕ)) (excluded : List Pattern)
     (before : StandsBefore core (means s item) names (Call nonterminal arguments label excluded)) (calls : BeforeCalls) where

@@ -1,6 +1,7 @@
 -- An item before a call is taken: the trail, as its callee is entered, and behind that.
 use Rattle.std.proofs.Common.{◌≡◌, ℕ, suc, ◌+◌, List, [], Some, Option, length, set, refl, sym, ap, ◌∙◌, subst, slice_get}
 use Rattle.std.specs.Prelude.{Bool, IsTrue, None, Result, Ok, OnOk}
+use Rattle.ig_text.specs.Input.{Input}
 use Rattle.ig_text.specs.declared.pattern.Pattern.{Pattern}
 use Rattle.ig_expr.specs.Expression.{Expression}
 use Rattle.ig_item.specs.Step.{Call}
@@ -30,7 +31,7 @@ use Rattle.ig_plain.proofs.Entered.{trail_moved}
 use Rattle.ig_plain.proofs.Fresh.{found_by_node}
 use Rattle.ig_plain.proofs.TakenOn.{idle_on, waits_on, past_on}
 
-module _ (core : List Nonterminal) (text : List ℕ) (law : ReachableIsClosed) (inside : ItemsAreInText) (budget k : ℕ) (s : Found) (w : Waiting)
+module _ (core : List Nonterminal) (text : Input) (law : ReachableIsClosed) (inside : ItemsAreInText) (budget k : ℕ) (s : Found) (w : Waiting)
     (item : stored.Item)
     (r : IsRun core text budget item.position k s w) (at : slice_get s.here.items k ≡ Some item) (names : List (List ℕ)) (nonterminal : ℕ)
     (arguments : List Expression) (label : Option (List ℕ)) (excluded : List Pattern)

@@ -4,6 +4,7 @@ use Rattle.std.specs.Prelude.{Bool, Result, Ok, Err}
 use Rattle.std.proofs.lemmas.Option.{same_Some, slice_get_within, slice_get-get_or}
 use Rattle.std.proofs.lemmas.List.Elements.{Contains-append_left, Contains-append_right, Contains-append_cases}
 use Rattle.std.proofs.lemmas.List.{length-set}
+use Rattle.ig_text.specs.Input.{Input}
 use Rattle.ig_text.specs.declared.pattern.Pattern.{Pattern}
 use Rattle.ig_text.proofs.Lists.{contains_from_at, it_is_in, contains_one, unmapped_in, among_all}
 use Rattle.ig_text.proofs.Equal.{same_listed}
@@ -37,7 +38,7 @@ use Rattle.ig_plain.proofs.Links.{chain_stays, end_stays, end_within, last_in, s
 use Rattle.ig_plain.proofs.Completes.{keeps_grown, instances_once, item_named, firsts_kept}
 
 -- one list of names is visible at a dot
-pub visible_one : (core : List Nonterminal) (text : List ℕ) (it : Item) (names others : List (List ℕ)) (s t : Step) →
+pub visible_one : (core : List Nonterminal) (text : Input) (it : Item) (names others : List (List ℕ)) (s t : Step) →
     StandsBefore core it names s → StandsBefore core it others t → names ≡ others
 visible_one core text it names others s t p q =
     let n : p.nonterminal ≡ q.nonterminal = same_Some p.nonterminal q.nonterminal (sym p.has.there ∙ q.has.there) in
@@ -45,7 +46,7 @@ visible_one core text it names others s t p q =
     p.visible ∙ ap (λ z. names_at z p.alternative it.dot) n ∙ ap (λ z. names_at q.nonterminal z it.dot) a ∙ sym q.visible
 
 -- an item calls one instance
-pub calls_one : (core : List Nonterminal) (text : List ℕ) (it : Item) (a b : Instance) (l m : Option (List ℕ)) (e f : List Pattern) →
+pub calls_one : (core : List Nonterminal) (text : Input) (it : Item) (a b : Instance) (l m : Option (List ℕ)) (e f : List Pattern) →
     Calls core text it a l e → Calls core text it b m f → (a ≡ b) × (l ≡ m) × (e ≡ f)
 calls_one core text it a b l m e f p q =
     let steps = one_step core text it p.names q.names (Call a.nonterminal p.arguments l e) (Call b.nonterminal q.arguments m f) p.before q.before in
@@ -58,7 +59,7 @@ calls_one core text it a b l m e f p q =
     let s : a.start ≡ b.start = p.here ∙ sym q.here in
     ((λ i. record { nonterminal = n i; values = v i; start = s i }), cc steps, cc steps)
 
-module _ (core : List Nonterminal) (text : List ℕ) (p : ℕ) (s t : Found) (taken : List Item) (item : stored.Item) (v u : Waiting) (i : ℕ) (callee : Instance)
+module _ (core : List Nonterminal) (text : Input) (p : ℕ) (s t : Found) (taken : List Item) (item : stored.Item) (v u : Waiting) (i : ℕ) (callee : Instance)
     (keeps : Keeps s t) (named : Named s item) (r : IsWaiting core text p s taken v) (once : NoneTwice (instances_in s))
     (at : slice_get (instances_in s) i ≡ Some callee) (calls : IsCaller core text (means s item) callee)
     (number : ℕ) (is_bare : Bool) (cells : u.callers.items ≡ lengthened v.callers.items (called_at v i).last item number is_bare)
@@ -201,7 +202,7 @@ module _ (core : List Nonterminal) (text : List ℕ) (p : ℕ) (s t : Found) (ta
             (λ h. r.before j after e h.1 is) (before_of j after known);
       }
 
-module _ (core : List Nonterminal) (text : List ℕ) (law : ReachableIsClosed) (inside : ItemsAreInText) (budget p k : ℕ) (s : Found) (v : Waiting) (item : stored.Item)
+module _ (core : List Nonterminal) (text : Input) (law : ReachableIsClosed) (inside : ItemsAreInText) (budget p k : ℕ) (s : Found) (v : Waiting) (item : stored.Item)
     (here : item.position ≡ p) (r : IsRun core text budget p k s v) (at : slice_get s.here.items k ≡ Some item) (i : ℕ) (callee : Instance)
     (label : Option (List ℕ)) (excluded : List Pattern) (there : slice_get (instances_in s) i ≡ Some callee)
     (calls : Calls core text (means s item) callee label excluded) where

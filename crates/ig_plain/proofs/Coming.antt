@@ -1,5 +1,6 @@
 -- What follows from an item that calls nothing and isn't complete, by what comes of it.
 use Rattle.std.proofs.Common.{◌≡◌, ◌⊎◌, inl, inr, ℕ, List, refl, sym, ap, ◌∙◌}
+use Rattle.ig_text.specs.Input.{Input}
 use Rattle.ig_item.specs.Gives as given
 use Rattle.ig_item.specs.Gives.{Gives, Taken, nothing, leaf}
 use Rattle.ig_item.specs.Items.{Item, IsComplete}
@@ -10,7 +11,7 @@ use Rattle.ig_run_moves.specs.Rules.{Comes, NoItem, NoCall, PassesTo, ReadsTo}
 use Rattle.ig_run_laws.specs.Rules as rules
 use Rattle.ig_run_laws.specs.Rules.{After, IsCaller}
 
-module _ (core : List Nonterminal) (text : List ℕ) (it : Item) (passes reads : Item → Type 0)
+module _ (core : List Nonterminal) (text : Input) (it : Item) (passes reads : Item → Type 0)
     (c : Comes core text it passes reads NoCall ⊥) where
   pub follows_only : (known : Item → Type 0) (x : Item) → After core text known it x → passes x ⊎ reads x
   follows_only known x (rules.test names e b h f) = inl ((c.passing x).0 (moves.test names e b (h, f)))
@@ -39,7 +40,7 @@ module _ (core : List Nonterminal) (text : List ℕ) (it : Item) (passes reads :
   is_unfinished q = c.ending.0 q
 
 -- and in which way
-module _ (core : List Nonterminal) (text : List ℕ) (known : Item → Type 0) where
+module _ (core : List Nonterminal) (text : Input) (known : Item → Type 0) where
   pub gives_passing : (passes : Item → Type 0) (prev : Item) (what : Taken) (x : Item) → Comes core text prev passes NoItem NoCall ⊥ →
       Gives core text known prev what x → (what ≡ nothing) × passes x
   gives_passing passes p w y c (given.test prev names e x k b holds is) = (refl, (c.passing x).0 (moves.test names e b (holds, is)))

@@ -2,6 +2,7 @@
 use Rattle.std.proofs.Common.{◌≡◌, inl, inr, ℕ, zero, suc, ◌<◌, List, [], ◌∷◌, ◌++◌, Some, Option, length, map, set, Contains, refl, sym, ap, ◌∙◌, subst, arith, slice_get}
 use Rattle.std.specs.Prelude.{Result, Ok, Err, slice_index_or, option_map}
 use Rattle.std.proofs.lemmas.Option.{slice_get_within, slice_get-get_or, slice_get-map}
+use Rattle.ig_text.specs.Input.{Input}
 use Rattle.ig_text.specs.declared.pattern.Pattern.{Pattern}
 use Rattle.ig_text.proofs.Lists.{contains_from_at, same_map}
 use Rattle.ig_item.specs.Step.{Call}
@@ -54,7 +55,7 @@ keeps_grown p may a b g =
           same_map (instance_by b.envs.keys) (instance_by a.envs.keys) a.keys (λ key c. instance_kept a.envs.keys b.envs.keys key g.envs (a.named.values key c));
     }
 
-module _ (core : List Nonterminal) (text : List ℕ) (law : ReachableIsClosed) (budget p k : ℕ) (s : Found) (w : Waiting) (item : stored.Item)
+module _ (core : List Nonterminal) (text : Input) (law : ReachableIsClosed) (budget p k : ℕ) (s : Found) (w : Waiting) (item : stored.Item)
     (here : item.position ≡ p) (r : IsRun core text budget p k s w) (at : slice_get s.here.items k ≡ Some item) where
   abbrev it : Item
   it = means s item
@@ -183,7 +184,7 @@ module _ (core : List Nonterminal) (text : List ℕ) (law : ReachableIsClosed) (
     completes t v (Err f) ended d = refuses core text law budget p k s item r.taking at Returned t f d sound
 
 -- the run, at the number of the item
-pub run_at : (core : List Nonterminal) (text : List ℕ) (budget : ℕ) (item : stored.Item) (s : Found) (w : Waiting) → Taking core text budget item s w →
+pub run_at : (core : List Nonterminal) (text : Input) (budget : ℕ) (item : stored.Item) (s : Found) (w : Waiting) → Taking core text budget item s w →
     (k : ℕ) → slice_get s.here.items k ≡ Some item → IsRun core text budget item.position k s w
 run_at core text budget item s w t k e =
     subst (λ (n : ℕ). IsRun core text budget item.position n s w) (t.run.taking.stored.here_once t.number k item t.at e) t.run

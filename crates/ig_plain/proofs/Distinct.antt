@@ -4,6 +4,7 @@ use Rattle.std.specs.Prelude.{slice_index_or}
 use Rattle.std.proofs.lemmas.List.{map-append}
 use Rattle.std.proofs.lemmas.Option.{slice_get-get_or}
 use Rattle.std.proofs.lemmas.List.Elements.{Contains-append_cases}
+use Rattle.ig_text.specs.Input.{Input}
 use Rattle.ig_text.proofs.Differing.{both_differ}
 use Rattle.ig_text.proofs.Lists.{contains_from_at, unmapped_at}
 use Rattle.ig_expr.specs.declared.value.Value.{Value}
@@ -94,7 +95,7 @@ module _ (p : ℕ) (s : Found) (r : IsStored p s) where
       mapped [] = refl
       mapped (x ∷ xs) = ap suc (mapped xs)
 
-  pub too_many : (core : List Nonterminal) (text : List ℕ) (budget : ℕ) →
+  pub too_many : (core : List Nonterminal) (text : Input) (budget : ℕ) →
       ((x : Item) → Contains (found_in s ++ later_in s) x → Reachable core text x) → budget < count s → MoreThan core text budget
   too_many core text budget reachable more =
       record {

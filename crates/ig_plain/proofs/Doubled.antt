@@ -3,6 +3,7 @@ use Rattle.std.proofs.Common.{◌≡◌, ℕ, zero, suc, ◌+◌, ◌*◌, ◌-�
 use Rattle.std.specs.Prelude.{codes}
 use Rattle.std.proofs.lemmas.List.{length-map, length-replicate, drop-replicate, take-replicate}
 use Rattle.std.proofs.lemmas.List.Elements.{All-nil}
+use Rattle.ig_text.specs.Input.{Input, untabbed}
 use Rattle.ig_text.specs.Place.{Spells}
 use Rattle.ig_text.specs.declared.pattern.Pattern.TheVariants.{Literal}
 use Rattle.ig_text.proofs.Lists.{unmapped_in, at_from_contains}
@@ -25,7 +26,7 @@ abbrev from : ℕ → Instance
 from i = record { nonterminal = 1; values = []; start = i }
 
 -- the letter at i
-one_letter : (n i : ℕ) → i < n → Spells (replicate n 97) (codes "a") i (suc i)
+one_letter : (n i : ℕ) → i < n → Spells (untabbed (replicate n 97)) (codes "a") i (suc i)
 one_letter n i lt =
     let one : suc i - i ≡ 1 = omega arith in
     record {
@@ -37,8 +38,8 @@ one_letter n i lt =
     }
 
 module _ (closed : ReachableIsClosed) (n : ℕ) where
-  abbrev text : List ℕ
-  text = replicate n 97
+  abbrev text : Input
+  text = untabbed (replicate n 97)
 
   abbrev Is : Item → Type 0
   Is x = Reachable doubled text x
@@ -183,7 +184,7 @@ many_reachable closed n budget few =
           let at = at_from_contains (stretches n) from_stretch.0 from_stretch.1 in
           let within = within_stretches n at.0 from_stretch.0 at.1 in
           let s = from_stretch.0 in
-          subst (λ (y : Item). Reachable doubled (replicate n 97) y) from_stretch.2
+          subst (λ (y : Item). Reachable doubled (untabbed (replicate n 97)) y) from_stretch.2
           (behind_call closed n s.start (suc s.end) (omega (arith, within.onward)) (omega (arith, within.inside)));
       more =
           let long = length-map (stretches n) over in

@@ -1,6 +1,7 @@
 -- At the end of the text the ways are those that the rules give from reachable items.
 use Rattle.std.proofs.Common.{◌≡◌, inl, ℕ, List, [], ◌++◌, Some, length, map, Contains, refl, sym, ap, subst, slice_get}
 use Rattle.std.proofs.lemmas.Option.{slice_get_within}
+use Rattle.ig_text.specs.Input.{Input}
 use Rattle.ig_text.proofs.Lists.{contains_from_at, none_in_nil}
 use Rattle.ig_item.specs.Items.{Item, Reachable}
 use Rattle.ig_item.specs.Gives.{Taken}
@@ -34,8 +35,8 @@ ends_same core known other items to back =
       ends = λ key q. absurd q;
     }
 
-module _ (core : List Nonterminal) (text : List ℕ) (law : ItemsAreInText) (budget : ℕ) (s : Found) (w : Waiting)
-    (r : IsRun core text budget (length text) (length s.here.items) s w) (t : Trail) (h : HasTrail core text (length text) (length s.here.items) s w t) where
+module _ (core : List Nonterminal) (text : Input) (law : ItemsAreInText) (budget : ℕ) (s : Found) (w : Waiting)
+    (r : IsRun core text budget (length text.characters) (length s.here.items) s w) (t : Trail) (h : HasTrail core text (length text.characters) (length s.here.items) s w t) where
   abbrev known : Item → Type 0
   known = Contains (taken_in s (length s.here.items))
 

@@ -5,6 +5,7 @@ use Rattle.std.proofs.lemmas.List.{append-nil, length-map}
 use Rattle.std.proofs.lemmas.Option.{slice_get-map, slice_get-get_or, get_or_from_slice_get}
 use Rattle.std.proofs.Math.Seq.{take-length}
 use Rattle.std.proofs.lemmas.List.Elements.{Contains-append_left, Contains-append_right}
+use Rattle.ig_text.specs.Input.{Input}
 use Rattle.ig_text.proofs.Lists.{contains_from_at, mapped_in, same_map}
 use Rattle.ig_expr.specs.declared.value.Value.{Value}
 use Rattle.ig_item.specs.Induction.{kept}
@@ -27,8 +28,8 @@ use Rattle.ig_plain.proofs.Distinct.{different, counted}
 use Rattle.ig_plain.proofs.Completes.{instances_once}
 use Rattle.ig_plain.proofs.Fewer.{at_most}
 
-module _ (core : List Nonterminal) (text : List ℕ) (law : ItemsAreInText) (budget : ℕ) (s : Found) (w : Waiting)
-    (r : IsRun core text budget (length text) (length s.here.items) s w) where
+module _ (core : List Nonterminal) (text : Input) (law : ItemsAreInText) (budget : ℕ) (s : Found) (w : Waiting)
+    (r : IsRun core text budget (length text.characters) (length s.here.items) s w) where
   pub no_later : s.later.items ≡ []
   no_later = none s.later.items (λ x c. never x c)
     where
@@ -62,11 +63,11 @@ module _ (core : List Nonterminal) (text : List ℕ) (law : ItemsAreInText) (bud
       (r.taking.closed y (subst (λ (z : List Item). Follows core text (Contains z) y) (sym taken_all) f))) x q
 
   pub once : NoneTwice (found_in s)
-  once = subst NoneTwice all_found (different (length text) s r.taking.stored)
+  once = subst NoneTwice all_found (different (length text.characters) s r.taking.stored)
 
   few : length (found_in s) ≤ budget
   few =
-      let a = ap length all_found in let b = counted (length text) s r.taking.stored in let l = r.taking.within in omega (arith, a, b, l)
+      let a = ap length all_found in let b = counted (length text.characters) s r.taking.stored in let l = r.taking.within in omega (arith, a, b, l)
 
   -- the tables of the answer
   abbrev tables : Tables

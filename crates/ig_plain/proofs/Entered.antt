@@ -3,6 +3,7 @@ use Rattle.std.proofs.Common.{◌≡◌, ⊎_elim, inl, ℕ, ◌+◌, List, [], 
 use Rattle.std.specs.Prelude.{Ok, slice_index_or}
 use Rattle.std.proofs.lemmas.Option.{slice_get_within, slice_get-get_or}
 use Rattle.std.proofs.lemmas.List.Elements.{Contains-append_right}
+use Rattle.ig_text.specs.Input.{Input}
 use Rattle.ig_text.proofs.Lists.{contains_from_at, sides, contains_one, unmapped_in, it_is_in}
 use Rattle.ig_item.specs.Items.{Item}
 use Rattle.ig_item.specs.Tables.{instance_by}
@@ -39,7 +40,7 @@ use Rattle.ig_plain.proofs.Indexing.{indexed_same}
 use Rattle.ig_plain.proofs.Onward.{items_once, known_more, taken_below}
 
 -- what is taken stays, and what was found and recorded follows from it
-pub trail_kept : (core : List Nonterminal) (text : List ℕ) (p k : ℕ) (s t : Found) (w v : Waiting) (trail u : Trail) (may : Way → Item → Type 0) →
+pub trail_kept : (core : List Nonterminal) (text : Input) (p k : ℕ) (s t : Found) (w v : Waiting) (trail u : Trail) (may : Way → Item → Type 0) →
     HasTrail core text p k s w trail → RecordsMore may s t trail u → Extends (found_in s) (found_in t) → NoneTwice (found_in t) →
     taken_in t k ≡ taken_in s k → u.ways.ends ≡ trail.ways.ends →
     ((way : Way) (x : Item) → may way x → IsWay core text (Contains (taken_in s k)) (found_in t) x way) → AreKnown core t v.callers.items →
@@ -67,7 +68,7 @@ trail_kept core text p k s t w v trail u may h more found once taken same sound 
       indexed = more.indexed h.indexed;
     }
 
-module _ (core : List Nonterminal) (text : List ℕ) (p k : ℕ) (s t : Found) (w : Waiting) (trail : Trail) (r : IsStored p s) (m : Moved s t)
+module _ (core : List Nonterminal) (text : Input) (p k : ℕ) (s t : Found) (w : Waiting) (trail : Trail) (r : IsStored p s) (m : Moved s t)
     (h : HasTrail core text p k s w trail) where
   -- tables grow, and the items stay
   trail_in : (v : Waiting) → AreKnown core s v.callers.items →
@@ -115,7 +116,7 @@ module _ (core : List Nonterminal) (text : List ℕ) (p k : ℕ) (s t : Found) (
       never : (n : ℕ) → not_called.last_end ≡ Some n → ⊥
       never n e = cc
 
-module _ (core : List Nonterminal) (text : List ℕ) (budget k : ℕ) (key : InstanceKey) (s : Found) (w : Waiting) (trail : Trail)
+module _ (core : List Nonterminal) (text : Input) (budget k : ℕ) (key : InstanceKey) (s : Found) (w : Waiting) (trail : Trail)
     (r : IsRun core text budget key.start k s w) (h : HasTrail core text key.start k s w trail) where
   -- the instance is there
   pub old_on : (t : Found) → t.envs.keys ≡ s.envs.keys → t.done.items ≡ s.done.items → t.here.items ≡ s.here.items → t.later.items ≡ s.later.items →

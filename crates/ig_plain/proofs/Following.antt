@@ -1,6 +1,7 @@
 -- What follows from the taken items and one more.
 use Rattle.std.proofs.Common.{◌≡◌, ◌⊎◌, ⊎_elim, inl, inr, ℕ, List, [], ◌∷◌, ◌++◌, length, Contains, sym, ap, ◌∙◌, subst, arith, slice_get}
 use Rattle.std.proofs.lemmas.Option.{same_Some, slice_get_within}
+use Rattle.ig_text.specs.Input.{Input}
 use Rattle.ig_text.proofs.Lists.{in_pushed}
 use Rattle.ig_item.specs.Step.{Step}
 use Rattle.ig_item.specs.Core.{IsAlternative, numbered}
@@ -12,7 +13,7 @@ use Rattle.ig_item.specs.declared.core_grammar.CoreAlt.{CoreAlt}
 use Rattle.ig_run_laws.specs.Rules as rules
 use Rattle.ig_run_laws.specs.Rules.{After}
 
-module _ (core : List Nonterminal) (text : List ℕ) where
+module _ (core : List Nonterminal) (text : Input) where
   pub same_alternative : (n a : ℕ) (m k : Nonterminal) (u v : CoreAlt) → IsAlternative core n a m u → IsAlternative core n a k v → u ≡ v
   same_alternative n a m k u v p q =
       let e : m ≡ k = same_Some m k (sym p.there ∙ q.there) in

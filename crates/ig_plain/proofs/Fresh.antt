@@ -3,6 +3,7 @@
 use Rattle.std.proofs.Common.{◌≡◌, ◌⊎◌, ⊎_elim, inl, inr, ℕ, suc, List, [], ◌∷◌, Option, Some, Contains, refl, sym, ap, ◌∙◌, subst, arith, slice_get}
 use Rattle.std.proofs.lemmas.List.{append-nil, same_from_push}
 use Rattle.std.proofs.lemmas.Option.{slice_get_within}
+use Rattle.ig_text.specs.Input.{Input}
 use Rattle.ig_text.specs.declared.pattern.Pattern.{Pattern}
 use Rattle.ig_text.proofs.Lists.{at_from_contains, get_within}
 use Rattle.ig_expr.specs.Expression.{Expression}
@@ -31,7 +32,7 @@ use Rattle.ig_plain.proofs.Coming.{gives_passing, gives_reading}
 use Rattle.ig_plain.proofs.Terminals.{from_one, same_item}
 use Rattle.ig_plain.proofs.Calls.{calls_one}
 
-module _ (core : List Nonterminal) (text : List ℕ) (known : Item → Type 0) where
+module _ (core : List Nonterminal) (text : Input) (known : Item → Type 0) where
   -- x is behind a call of the instance, of which a known item is complete where x stands
   pub record IsBehindCall (prev : Item) (callee : Instance) (label : Option (List ℕ)) (excluded : List Pattern) (what : Taken)
       (x : Item) : Type 0 where
@@ -188,7 +189,7 @@ module _ (core : List Nonterminal) (text : List ℕ) (known : Item → Type 0) w
       let b = gives_call prev what x c.0 c.1 c.2 gives c.3 in
       takes_tree items x.position way prev what (record { instance = c.0; end = b.end }) says b.takes
 
-module _ (core : List Nonterminal) (text : List ℕ) (s : Found) (trail : Trail) (taken : List Item) (follows : FollowTrail core text s trail taken) where
+module _ (core : List Nonterminal) (text : Input) (s : Found) (trail : Trail) (taken : List Item) (follows : FollowTrail core text s trail taken) where
   -- an item behind a call was found by a node
   pub found_by_node : (it : Item) (names : List (List ℕ)) (nonterminal : ℕ) (arguments : List Expression) (label : Option (List ℕ))
       (excluded : List Pattern) → StandsBefore core it names (Call nonterminal arguments label excluded) → (x : Item) (bound : List Value) (end : ℕ) →
@@ -201,7 +202,7 @@ module _ (core : List Nonterminal) (text : List ℕ) (s : Found) (trail : Trail)
       (after_past core text (Contains taken) it x bound end is) (follows.sound way.0 x (trails.here k at (ways.found way.1))) in
       (node.0, node.1, way.1 ∙ ap Some node.2)
 
-module _ (core : List Nonterminal) (text : List ℕ) (s : Found) (trail : Trail) (taken : List Item) (follows : FollowTrail core text s trail taken)
+module _ (core : List Nonterminal) (text : Input) (s : Found) (trail : Trail) (taken : List Item) (follows : FollowTrail core text s trail taken)
     (it : Item)
     (not_yet : Contains taken it → ⊥) where
   -- a found item behind a step comes from a taken one

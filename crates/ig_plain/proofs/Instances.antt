@@ -5,6 +5,7 @@ use Rattle.std.specs.Result.{IsErrAnd}
 use Rattle.std.proofs.lemmas.Result.{err_from_is_err_and}
 use Rattle.std.proofs.lemmas.List.{map-append}
 use Rattle.std.proofs.lemmas.List.Elements.{Contains-append_cases}
+use Rattle.ig_text.specs.Input.{Input}
 use Rattle.ig_text.proofs.Lists.{contains_from_at, right_at, contains_one, unmapped_in, same_map, among_all}
 use Rattle.ig_item.specs.Core.{IsAlternative}
 use Rattle.ig_item.specs.Items.{Item, Reachable, first}
@@ -47,7 +48,7 @@ moved_keeps s t m same =
           same_map (instance_by t.envs.keys) (instance_by s.envs.keys) s.keys (λ key c. instance_kept s.envs.keys t.envs.keys key m.envs (s.named.values key c));
     }
 
-module _ (core : List Nonterminal) (text : List ℕ) (budget p k : ℕ) (s t : Found) (w : Waiting) (r : IsRun core text budget p k s w) where
+module _ (core : List Nonterminal) (text : Input) (budget p k : ℕ) (s t : Found) (w : Waiting) (r : IsRun core text budget p k s w) where
   -- a run whose tables moved, without a new instance
   pub run_moved : Moved s t → t.keys ≡ s.keys → IsRun core text budget p k t w
   run_moved m same =
@@ -69,7 +70,7 @@ module _ (core : List Nonterminal) (text : List ℕ) (budget p k : ℕ) (s t : F
       (Contains-append_cases s.done.items (take k s.here.items) u.0 u.1) in
       contains_from_at (instances_in s) u.0.instance x.instance (instance_at s u.0 n ∙ ap (λ (z : Item). Some z.instance) u.2)
 
-module _ (core : List Nonterminal) (text : List ℕ) (budget k : ℕ) (key : InstanceKey) (s : Found) (w : Waiting)
+module _ (core : List Nonterminal) (text : Input) (budget k : ℕ) (key : InstanceKey) (s : Found) (w : Waiting)
     (r : IsRun core text budget key.start k s w) where
   -- the tables are the same
   pub moved_same : (t : Found) → t.envs.keys ≡ s.envs.keys → t.done.items ≡ s.done.items → t.here.items ≡ s.here.items →

@@ -2,6 +2,7 @@
 use Rattle.std.proofs.Common.{◌≡◌, ◌⊎◌, ⊎_elim, inl, inr, ℕ, zero, suc, ◌+◌, ◌<◌, ◌≤◌, List, [], ◌∷◌, ◌++◌, Some, None, length, map, take, Contains, refl, sym, ap, ◌∙◌, subst, arith, slice_get, length-append}
 use Rattle.std.proofs.lemmas.Option.{same_Some, slice_get_within}
 use Rattle.std.proofs.lemmas.List.Elements.{Contains-append_left, Contains-append_right, Contains-append_cases}
+use Rattle.ig_text.specs.Input.{Input}
 use Rattle.ig_text.proofs.Lists.{among_all, sides, none_in_nil, same_map}
 use Rattle.ig_item.specs.Items.{Item, Follows, Reachable, MoreThan}
 use Rattle.ig_item.specs.WellKinded.{NoneTwice}
@@ -85,7 +86,7 @@ module _ (s t : Found) (m : Moved s t) where
         later_once = subst NoneTwice (sym m.later) r.later_once;
       }
 
-  pub moved_taking : (core : List Nonterminal) (text : List ℕ) (budget p k : ℕ) → IsTaking core text budget p k s → IsTaking core text budget p k t
+  pub moved_taking : (core : List Nonterminal) (text : Input) (budget p k : ℕ) → IsTaking core text budget p k s → IsTaking core text budget p k t
   moved_taking core text budget p k r =
       record {
         stored = moved_stored p r.stored;
@@ -99,7 +100,7 @@ module _ (s t : Found) (m : Moved s t) where
       }
 
 -- items are added at the position that are reachable
-pub taking_grown : (core : List Nonterminal) (text : List ℕ) (budget p k : ℕ) (may : Item → Type 0) (s t : Found) → IsTaking core text budget p k s →
+pub taking_grown : (core : List Nonterminal) (text : Input) (budget p k : ℕ) (may : Item → Type 0) (s t : Found) → IsTaking core text budget p k s →
     Grows p may s t → ((x : Item) → may x → Reachable core text x) → count t ≤ budget → IsTaking core text budget p k t
 taking_grown core text budget p k may s t r g sound within =
     let same = taken_grown p may s t k g r.few in
@@ -121,7 +122,7 @@ taking_grown core text budget p k may s t r g sound within =
       within = within;
     }
 
-pub exceeds_grown : (core : List Nonterminal) (text : List ℕ) (budget p k : ℕ) (may : Item → Type 0) (s t : Found) → IsTaking core text budget p k s →
+pub exceeds_grown : (core : List Nonterminal) (text : Input) (budget p k : ℕ) (may : Item → Type 0) (s t : Found) → IsTaking core text budget p k s →
     Grows p may s t → ((x : Item) → may x → Reachable core text x) → budget < count t → MoreThan core text budget
 exceeds_grown core text budget p k may s t r g sound more =
     too_many p t (stored_grown p may s t r.stored g) core text budget
@@ -134,7 +135,7 @@ exceeds_grown core text budget p k may s t r g sound more =
     r.reachable x (Contains-append_right (found_in s) (later_in s) x (subst (λ (z : List Item). Contains z x) (later_same p may s t g) h)))
     (Contains-append_cases (found_in t) (later_in t) x c)) more
 
-module _ (core : List Nonterminal) (text : List ℕ) (p : ℕ) where
+module _ (core : List Nonterminal) (text : Input) (p : ℕ) where
   callers_kept : (s t : Found) (taken : List Item) (cells : List Caller) (head last : ℕ) (callee : Instance) →
       ((x : stored.Item) → Named s x → Named t x) → ((x : stored.Item) → Named s x → means t x ≡ means s x) →
       HasCallers core text s taken cells head last callee → HasCallers core text t taken cells head last callee

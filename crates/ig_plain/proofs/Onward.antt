@@ -3,6 +3,7 @@ use Rattle.std.proofs.Common.{◌≡◌, ◌⊎◌, ⊎_elim, inl, inr, ℕ, suc
 use Rattle.std.specs.Prelude.{option_map, Result, Ok, Err, OnOk}
 use Rattle.std.proofs.lemmas.Option.{slice_get_within, slice_get-map}
 use Rattle.std.proofs.lemmas.List.Elements.{Contains-append_right, Contains-append_left}
+use Rattle.ig_text.specs.Input.{Input}
 use Rattle.ig_text.proofs.Lists.{contains_from_at, left_at, right_at, sides, within_take, at_from_contains, unmapped_at, it_is_in}
 use Rattle.ig_item.specs.Items.{Item, IsComplete}
 use Rattle.ig_item.specs.WellKinded.{NoneTwice}
@@ -114,7 +115,7 @@ module _ (s : Found) (k : ℕ) where
       slice_get (s.done.items ++ s.here.items) number ≡ Some item
   stored_at number item is at = right_at s.done.items s.here.items number k item is at
 
-module _ (core : List Nonterminal) (text : List ℕ) (p k : ℕ) (s : Found) (w : Waiting) (trail : Trail) (item : stored.Item) (number : ℕ)
+module _ (core : List Nonterminal) (text : Input) (p k : ℕ) (s : Found) (w : Waiting) (trail : Trail) (item : stored.Item) (number : ℕ)
     (r : IsStored p s) (at : slice_get s.here.items k ≡ Some item) (is : number ≡ length s.done.items + k) (h : HasTrail core text p k s w trail) where
   abbrev it : Item
   it = means s item
@@ -216,7 +217,7 @@ module _ (core : List Nonterminal) (text : List ℕ) (p k : ℕ) (s : Found) (w 
         callers (firsts_now v alike)
 
 -- the trail and the number of the item that is taken next
-pub trail_at : (core : List Nonterminal) (text : List ℕ) (p : ℕ) (item : stored.Item) (number : ℕ) (s : Found) (w : Waiting) (trail : Trail) →
+pub trail_at : (core : List Nonterminal) (text : Input) (p : ℕ) (item : stored.Item) (number : ℕ) (s : Found) (w : Waiting) (trail : Trail) →
     IsStored p s →
     IsNext core text item number s w trail → (k : ℕ) → slice_get s.here.items k ≡ Some item →
     HasTrail core text item.position k s w trail × (number ≡ length s.done.items + k)
@@ -227,7 +228,7 @@ trail_at core text p item number s w trail r next k at =
     )
 
 -- one more is taken
-pub trail_next : (core : List Nonterminal) (text : List ℕ) (p q k : ℕ) (t : Found) (w : Waiting) (u : Trail) (result : Result (Unit {0}) RunFault) →
+pub trail_next : (core : List Nonterminal) (text : Input) (p q k : ℕ) (t : Found) (w : Waiting) (u : Trail) (result : Result (Unit {0}) RunFault) →
     q ≡ p →
     OnOk result (HasTrail core text q (suc k) t w u) → OnOk result (HasTrail core text p (k + 1) t w u)
 trail_next core text p q k t w u (Ok o) e h =

@@ -2,6 +2,7 @@
 use Rattle.std.proofs.Common.{◌≡◌, ℕ, zero, suc, ◌+◌, ◌*◌, ◌≤◌, List, [], ◌∷◌, ◌++◌, Some, length, take, Contains, slice_get, sym, ap, ◌∙◌, refl, subst, arith}
 use Rattle.std.specs.List.{flat_map}
 use Rattle.std.proofs.lemmas.List.{length-map, nil_from_length}
+use Rattle.ig_text.specs.Input.{Input}
 use Rattle.ig_text.proofs.Lists.{contains_from_at, both_empty}
 use Rattle.ig_expr.specs.Kinds.{kind_of_value}
 use Rattle.ig_expr.specs.declared.value.Value.{Value}
@@ -107,7 +108,7 @@ is_plain : (x : Item) → x.instance.values ≡ [] → x.env ≡ [] →
 is_plain x values env =
     ap (λ (vs : List Value). with_values x vs []) (sym values) ∙ ap (λ (vs : List Value). with_values x x.instance.values vs) (sym env)
 
-module _ (fit : EnvironmentsFit) (in_text : ItemsAreInText) (core : List Nonterminal) (text : List ℕ)
+module _ (fit : EnvironmentsFit) (in_text : ItemsAreInText) (core : List Nonterminal) (text : Input)
     (well : IsWellKinded core) (plain : IsPlain core) where
   -- as there are no parameters, there are no values of them
   no_values : (x : Item) (fits : EnvironmentFits core x) → x.instance.values ≡ []
@@ -126,13 +127,13 @@ module _ (fit : EnvironmentsFit) (in_text : ItemsAreInText) (core : List Nonterm
       nil_from_length x.env (fits.names ∙ ap length none)
 
   -- so each reachable item is one of those
-  pub has_reachable : (x : Item) → Reachable core text x → Contains (plain_items core (length text)) x
+  pub has_reachable : (x : Item) → Reachable core text x → Contains (plain_items core (length text.characters)) x
   has_reachable x reached =
       let fits = fit core text x well reached in
       let inside = in_text core text x reached in
       let dot = dot_at x.instance.nonterminal x.alternative x.dot in
       let over = stretch x.position x.instance.start in
-      subst (λ (y : Item). Contains (plain_items core (length text)) y) (is_plain x (no_values x fits) (no_env x fits))
-      (in_crossed plain_item (all_dots core) (stretches (length text + 1)) dot over
+      subst (λ (y : Item). Contains (plain_items core (length text.characters)) y) (is_plain x (no_values x fits) (no_env x fits))
+      (in_crossed plain_item (all_dots core) (stretches (length text.characters + 1)) dot over
       (in_all_dots core x.instance.nonterminal x.alternative x.dot fits.nonterminal fits.alternative fits.has fits.within)
-      (in_stretches (length text + 1) x.instance.start x.position inside.onward (omega (arith, inside.within))))
+      (in_stretches (length text.characters + 1) x.instance.start x.position inside.onward (omega (arith, inside.within))))

@@ -4,6 +4,7 @@ use Rattle.std.specs.Prelude.{IsTrue, Result, Ok, Err, option_and_then, slice_in
 use Rattle.std.proofs.lemmas.List.{append-nil}
 use Rattle.std.proofs.lemmas.List.Elements.{Contains-append_cases, Contains-append_left, Contains-append_right}
 use Rattle.std.proofs.lemmas.Option.{same_Some, slice_get_within, get_or_from_slice_get}
+use Rattle.ig_text.specs.Input.{Input}
 use Rattle.ig_text.specs.declared.pattern.Pattern.{Pattern}
 use Rattle.ig_text.proofs.Lists.{contains_from_at, it_is_in, contains_one, none_in_nil}
 use Rattle.ig_expr.specs.Expression.{Expression}
@@ -46,7 +47,7 @@ step_there core it names step b =
     ap (option_and_then (λ m. slice_get m.steps it.dot)) (alternative_there core it.instance.nonterminal it.alternative b.nonterminal b.alternative b.has) ∙ b.next
 
 -- the item after the call, of that label and those excluded patterns
-module _ (core : List Nonterminal) (text : List ℕ) (it : Item) (end callee : ℕ) (arguments : List Expression) (label : Option (List ℕ))
+module _ (core : List Nonterminal) (text : Input) (it : Item) (end callee : ℕ) (arguments : List Expression) (label : Option (List ℕ))
     (excluded : List Pattern) (names : List (List ℕ)) (before : StandsBefore core it names (Call callee arguments label excluded)) where
   -- these are the items after the call, whatever names it goes by
   pub into_return : (x : Item) → IsPastCall text label excluded end it x → IsReturn core text it end x
@@ -121,13 +122,13 @@ one_chain cells head xs (run.more k cell us at behind c) ys d =
     ap (λ (z : Caller). z.item ∷ us) same ∙ ap (λ (z : List stored.Item). h.cell.item ∷ z) rest ∙ sym h.is
 
 -- x came about from one of these callers
-abbrev pub IsVisit : List Nonterminal → List ℕ → ℕ → ℕ → Found → List stored.Item → Way → Item → Type 0
+abbrev pub IsVisit : List Nonterminal → Input → ℕ → ℕ → Found → List stored.Item → Way → Item → Type 0
 IsVisit core text done end a ys way x =
     (y : stored.Item) × Contains ys y × IsReturn core text (means a y) end x × (number : ℕ) ×
     (slice_get (a.done.items ++ a.here.items) number ≡ Some y) × (way ≡ Node number done)
 
 -- how far a walk along a chain has come
-pub record Walks (core : List Nonterminal) (text : List ℕ) (cells : List Caller) (head done end budget : ℕ) (a b : Found) (t u : Trail) (at : ℕ) :
+pub record Walks (core : List Nonterminal) (text : Input) (cells : List Caller) (head done end budget : ℕ) (a b : Found) (t u : Trail) (at : ℕ) :
     Type 0 where
   pub visited : List stored.Item
   pub rest : List stored.Item
@@ -136,7 +137,7 @@ pub record Walks (core : List Nonterminal) (text : List ℕ) (cells : List Calle
   pub adds : Adds end (λ x. (y : stored.Item) × Contains visited y × IsReturn core text (means a y) end x) budget a b (Ok tt)
   pub ways : Records (IsVisit core text done end a visited) a b t u
 
-module _ (core : List Nonterminal) (text : List ℕ) (cells : List Caller) (head done end budget : ℕ) (a : Found) (t : Trail)
+module _ (core : List Nonterminal) (text : Input) (cells : List Caller) (head done end budget : ℕ) (a : Found) (t : Trail)
     (chain : IsChainOf core cells head a) (known : AreKnown core a cells) (once : NoneTwice (a.done.items ++ a.here.items)) where
   abbrev Visited : List stored.Item → Item → Type 0
   Visited ys x = (y : stored.Item) × Contains ys y × IsReturn core text (means a y) end x

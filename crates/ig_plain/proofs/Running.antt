@@ -4,6 +4,7 @@ use Rattle.std.specs.Prelude.{Err}
 use Rattle.std.proofs.lemmas.List.{append-nil, map-append, take-append-le}
 use Rattle.std.proofs.lemmas.Option.{slice_get_within}
 use Rattle.std.proofs.lemmas.List.Elements.{Contains-append_left, Contains-append_right, Contains-append_cases}
+use Rattle.ig_text.specs.Input.{Input}
 use Rattle.ig_text.proofs.Differing.{pushed_differ}
 use Rattle.ig_text.proofs.Lists.{at_from_contains, contains_from_at, within_take, contains_one, among_all, it_is_in, mapped_in, unmapped_in, same_map, take_step}
 use Rattle.ig_item.specs.Items.{Item, Follows, Reachable, MoreThan}
@@ -71,7 +72,7 @@ taken_grown p may a b k g few =
     ap (map (means b)) (ap (λ (z : List stored.Item). z ++ take k b.here.items) g.done ∙ ap (λ (z : List stored.Item). a.done.items ++ z) front) ∙
     means_list p may a b g (a.done.items ++ take k a.here.items) (taken_named a k)
 
-module _ (core : List Nonterminal) (text : List ℕ) (law : ReachableIsClosed) (budget p k : ℕ) (s : Found) (item : stored.Item)
+module _ (core : List Nonterminal) (text : Input) (law : ReachableIsClosed) (budget p k : ℕ) (s : Found) (item : stored.Item)
     (r : IsTaking core text budget p k s) (at : slice_get s.here.items k ≡ Some item) where
   it_reachable : Reachable core text (means s item)
   it_reachable = r.reachable (means s item) (Contains-append_left (found_in s) (later_in s) (means s item) (item_found s k item at))

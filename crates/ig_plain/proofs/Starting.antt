@@ -1,5 +1,6 @@
 -- A run starts: the first items of the root begin, and nothing is taken.
 use Rattle.std.proofs.Common.{◌≡◌, ⊎_elim, ℕ, ◌<◌, List, [], ◌∷◌, ◌++◌, Some, None, length, map, Contains, sym, ap, ◌∙◌, subst, slice_get}
+use Rattle.ig_text.specs.Input.{Input}
 use Rattle.ig_text.proofs.Lists.{contains_from_at, contains_one, none_in_nil}
 use Rattle.ig_item.specs.Items.{Item}
 use Rattle.ig_item.specs.Gives as given
@@ -27,7 +28,7 @@ use Rattle.ig_plain.proofs.Growth.{extends_cases}
 use Rattle.ig_plain.proofs.Indexing.{indexed_same, indexed_none}
 
 -- from no items nothing is given
-none_given : (core : List Nonterminal) (text : List ℕ) (known : Item → Type 0) (prev x : Item) (taken : Taken) →
+none_given : (core : List Nonterminal) (text : Input) (known : Item → Type 0) (prev x : Item) (taken : Taken) →
     ((y : Item) → known y → ⊥) → Gives core text known prev taken x → ⊥
 none_given core text known prev x taken none (given.test p names e y k before holds is) = none p k
 none_given core text known prev x taken none (given.bind p names name e v y k before has is) = none p k
@@ -45,7 +46,7 @@ none_unfound f xs ys e d x c =
     (subst (λ (z : List Item). Contains z x)
     (ap (λ (z : List stored.Item). map f (z ++ ys)) e ∙ ap (λ (z : List stored.Item). map f z) d) c)
 
-module _ (core : List Nonterminal) (text : List ℕ) (root : Instance) (s t : Found) (v : Waiting) (tr u : Trail) (no_done : s.done.items ≡ [])
+module _ (core : List Nonterminal) (text : Input) (root : Instance) (s t : Found) (v : Waiting) (tr u : Trail) (no_done : s.done.items ≡ [])
     (no_here : s.here.items ≡ []) (done : t.done.items ≡ []) (later : s.later.items ≡ []) (called : v.called.items ≡ not_called ∷ []) (untrodden : IsUntrodden v tr)
     (r : Records (By Begin (IsFirstOf core root)) s t tr u) where
   abbrev known : List Item

@@ -4,6 +4,7 @@ use Rattle.std.specs.Prelude.{Result, Ok, Err, MatchResult}
 use Rattle.std.proofs.lemmas.List.{append-nil}
 use Rattle.std.proofs.lemmas.Option.{same_Some, get_or_from_slice_get}
 use Rattle.std.proofs.lemmas.List.Elements.{Contains-append_cases}
+use Rattle.ig_text.specs.Input.{Input}
 use Rattle.ig_text.proofs.Lists.{contains_from_at, contains_one, none_in_nil, unmapped_in}
 use Rattle.ig_expr.specs.declared.value.Value.{Value}
 use Rattle.ig_item.specs.Core.{IsAlternative, numbered}
@@ -42,7 +43,7 @@ alone keys after key i false none at new old =
     let e : after ≡ [] = old refl ∙ none in
     let c : slice_get [] i ≡ Some key = ap (λ (z : List InstanceKey). slice_get z i) (sym e) ∙ at in cc
 
-module _ (core : List Nonterminal) (text : List ℕ) (law : ReachableIsClosed) (kinded : IsWellKinded core) (budget : ℕ) (s : Found) (w : Waiting) (empty : IsNothing s w)
+module _ (core : List Nonterminal) (text : Input) (law : ReachableIsClosed) (kinded : IsWellKinded core) (budget : ℕ) (s : Found) (w : Waiting) (empty : IsNothing s w)
     (s1 : Found) (env : ℕ) (envs_once : NoneTwice s1.envs.keys) (there : slice_get s1.envs.keys env ≡ Some []) (done : s1.done.items ≡ s.done.items)
     (here : s1.here.items ≡ s.here.items) (later : s1.later.items ≡ s.later.items)
     (keys : s1.keys ≡ record { nonterminal = 0; env = env; start = 0 } ∷ []) where

@@ -5,6 +5,7 @@ use Rattle.std.specs.Prelude.{Bool, IsTrue, Result, Ok, Err, OnOk}
 use Rattle.std.proofs.lemmas.List.{length-map}
 use Rattle.std.proofs.lemmas.Option.{same_Some}
 use Rattle.std.proofs.lemmas.List.Elements.{Contains-append_cases}
+use Rattle.ig_text.specs.Input.{Input}
 use Rattle.ig_text.specs.declared.pattern.Pattern.{Pattern}
 use Rattle.ig_text.proofs.Lists.{contains_from_at, contains_one, none_in_nil}
 use Rattle.ig_item.specs.Step.{Call}
@@ -60,7 +61,7 @@ chain_cell cells head xs y (run.more k cell ys at behind rest) c =
     ⊎_elim (λ (h : Contains (cell.item ∷ []) y). (cell, contains_from_at cells k cell at, sym (contains_one cell.item y h)))
     (λ (h : Contains ys y). chain_cell cells cell.next ys y rest h) (Contains-append_cases (cell.item ∷ []) ys y c)
 
-module _ (core : List Nonterminal) (text : List ℕ) (law : ReachableIsClosed) (budget p k : ℕ) (s : Found) (w : Waiting) (trail : Trail)
+module _ (core : List Nonterminal) (text : Input) (law : ReachableIsClosed) (budget p k : ℕ) (s : Found) (w : Waiting) (trail : Trail)
     (item : stored.Item)
     (number : ℕ) (here : item.position ≡ p) (r : IsRun core text budget p k s w) (at : slice_get s.here.items k ≡ Some item)
     (is : number ≡ length s.done.items + k) (h : HasTrail core text p k s w trail) where

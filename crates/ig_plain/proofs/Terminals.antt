@@ -1,6 +1,7 @@
 -- Items behind terminals, and that each comes from one item alone.
 use Rattle.std.proofs.Common.{◌≡◌, ℕ, suc, ◌+◌, ◌-◌, List, ◌++◌, Some, None, Option, slice_get, sym, ap, ◌∙◌, subst, refl}
 use Rattle.std.proofs.lemmas.List.{same_from_push, append-nil}
+use Rattle.ig_text.specs.Input.{Input}
 use Rattle.ig_text.specs.Pattern.{Matches}
 use Rattle.ig_text.specs.declared.pattern.Pattern.{Pattern}
 use Rattle.ig_text.proofs.Matching.{one_begin}
@@ -39,7 +40,7 @@ same_env (Some name) env other i k j at e =
     (same_from_push env other (Span (record { begin = i; end = j })) (Span (record { begin = k; end = j })) e).0
 
 -- an item behind a terminal comes from one item alone
-pub from_one : (core : List Nonterminal) (text : List ℕ) (it other x : Item) → ReadsTo core text it x → ReadsTo core text other x → it ≡ other
+pub from_one : (core : List Nonterminal) (text : Input) (it other x : Item) → ReadsTo core text it x → ReadsTo core text other x → it ≡ other
 from_one core text it other x a b =
     let e : past it (span_of a.label it.position a.is.0) a.is.0 ≡ past other (span_of b.label other.position b.is.0) b.is.0 = sym a.is.3 ∙ b.is.3 in
     let instance : it.instance ≡ other.instance = ap (λ (z : Item). z.instance) e in
@@ -74,7 +75,7 @@ from_one core text it other x a b =
         }
 
 -- the item behind a terminal is added at a later position, in tables to which environments were added before
-module _ (text : List ℕ) (what : Pattern) (label : Option (List ℕ)) (excluded : List Pattern) (a m : Found) (item : stored.Item)
+module _ (text : Input) (what : Pattern) (label : Option (List ℕ)) (excluded : List Pattern) (a m : Found) (item : stored.Item)
     (r : Option stored.Item) (named : Named a item) (moves : Moves a.envs.keys m.envs.keys item (IsBehind text what label excluded) r)
     (more : Extends a.envs.keys m.envs.keys) (once : NoneTwice a.envs.keys → NoneTwice m.envs.keys) (keys : m.keys ≡ a.keys)
     (done : m.done.items ≡ a.done.items) (at : m.here.items ≡ a.here.items) (same : m.later.items ≡ a.later.items) (y : stored.Item)

@@ -2,6 +2,7 @@
 use Rattle.std.proofs.Common.{◌≡◌, ◌⊎◌, ⊎_elim, inl, inr, ℕ, ◌<◌, List, [], ◌∷◌, ◌++◌, Some, Option, length, Contains, refl, sym, ap, ◌∙◌, subst, arith, slice_get, length-append}
 use Rattle.std.proofs.lemmas.Option.{slice_get_within}
 use Rattle.std.proofs.lemmas.List.Elements.{Contains-append_left, Contains-append_right, Contains-append_cases}
+use Rattle.ig_text.specs.Input.{Input}
 use Rattle.ig_text.specs.declared.pattern.Pattern.{Pattern}
 use Rattle.ig_text.proofs.Lists.{in_pushed, contains_from_at, it_is_in, contains_one, right_at}
 use Rattle.ig_item.specs.Items.{Item, Calls, MatchesNone, past, span_of}
@@ -150,7 +151,7 @@ module _ (core : List Nonterminal) (known wider : Item → Type 0) (items more :
           (it_is_in (record { first = d; item = n }))))
           (g.splits f.key end.item f.further)
 
-module _ (core : List Nonterminal) (text : List ℕ) where
+module _ (core : List Nonterminal) (text : Input) where
   -- an item that could come about in a way still can
   pub way_on : (known wider : Item → Type 0) (items more : List Item) (n : ℕ) (new : NodeKey → Type 0) → EndsGrow core known wider items more n new →
       (x : Item) (way : Way) → IsWay core text known items x way → IsWay core text wider more x way
@@ -274,7 +275,7 @@ pub record RecordsMore (may : Way → Item → Type 0) (s t : Found) (trail u : 
   pub indexed : IsIndexed s trail → IsIndexed t u
 
 -- more is taken: what follows is recorded, if what was added is sound and complete
-pub follow : (core : List Nonterminal) (text : List ℕ) (may : Way → Item → Type 0) (s t : Found) (trail u : Trail) (taken now : List Item) (n : ℕ)
+pub follow : (core : List Nonterminal) (text : Input) (may : Way → Item → Type 0) (s t : Found) (trail u : Trail) (taken now : List Item) (n : ℕ)
     (new : NodeKey → Type 0) → FollowTrail core text s trail taken → RecordsMore may s t trail u →
     EndsGrow core (Contains taken) (Contains now) (found_in s) (found_in t) n new → AreEnds core (Contains now) (found_in t) u.ways →
     ((way : Way) (x : Item) → may way x → IsWay core text (Contains now) (found_in t) x way) →
@@ -326,7 +327,7 @@ recorded_kept s t trail u way x found behind firsts further later (trails.here k
 recorded_kept s t trail u way x found behind firsts further later (trails.later n pair is) =
     trails.later n (pairs_kept (later_in s) (later_in t) trail.later.items u.later.items x n behind later pair) is
 
-module _ (core : List Nonterminal) (text : List ℕ) (s t : Found) (trail u : Trail) (taken : List Item)
+module _ (core : List Nonterminal) (text : Input) (s t : Found) (trail u : Trail) (taken : List Item)
     (old : FollowTrail core text s trail taken) where
   -- items at the position, and further ways to them
   pub more_here : (may : Way → Item → Type 0) → Records may s t trail u → RecordsMore may s t trail u

@@ -4,6 +4,7 @@ use Rattle.std.proofs.lemmas.Option.{same_Some, slice_get-get_or, get_or_from_sl
 use Rattle.std.proofs.lemmas.List.Elements.{Contains-append_left, Contains-append_right, Contains-append_cases}
 use Rattle.std.proofs.lemmas.List.{length-set}
 use Rattle.std.proofs.lemmas.Bool.{cases_eq}
+use Rattle.ig_text.specs.Input.{Input}
 use Rattle.ig_text.proofs.Lists.{it_is_in, contains_one}
 use Rattle.ig_item.specs.Items.{Item, IsComplete}
 use Rattle.ig_item.specs.WellKinded.{NoneTwice}
@@ -26,7 +27,7 @@ pub record Keeps (s t : Found) : Type 0 where
   pub means_same : (x : stored.Item) → Named s x → means t x ≡ means s x
   pub instances : instances_in t ≡ instances_in s
 
-module _ (core : List Nonterminal) (text : List ℕ) (p : ℕ) where
+module _ (core : List Nonterminal) (text : Input) (p : ℕ) where
   -- the callers of an instance, where an item is taken that doesn't call it
   pub callers_still : (s t : Found) (taken : List Item) (it : Item) (cells : List Caller) (head last : ℕ) (callee : Instance) → Keeps s t →
       (IsCaller core text it callee → ⊥) → HasCallers core text s taken cells head last callee → HasCallers core text t (taken ++ it ∷ []) cells head last callee
@@ -133,7 +134,7 @@ ended_already w m p is =
         inl (h, sym (ap (λ (z : Called). z.last_end) q) ∙ is)
     same i after e (inr h) = inr (h, refl)
 
-module _ (core : List Nonterminal) (text : List ℕ) (p : ℕ) where
+module _ (core : List Nonterminal) (text : Input) (p : ℕ) where
   -- a complete item is taken
   pub waits_complete : (s t : Found) (taken : List Item) (it : Item) (w v : Waiting) (m : ℕ) → Keeps s t → NoneTwice (instances_in s) → Ended w v m p →
       slice_get (instances_in s) m ≡ Some it.instance → IsComplete core it → it.position ≡ p → IsWaiting core text p s taken w →

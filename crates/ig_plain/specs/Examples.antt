@@ -1,5 +1,6 @@
 -- The core grammar of an ambiguous grammar, and which budgets are enough for it.
 use Rattle.std.specs.Prelude.{ℕ, ◌+◌, ◌*◌, ◌/◌, ◌<◌, ◌≤◌, List, [], ◌∷◌, None, length, replicate, codes}
+use Rattle.ig_text.specs.Input.{Input, untabbed}
 use Rattle.ig_text.specs.declared.pattern.Pattern.TheVariants.{Literal}
 use Rattle.ig_text.specs.declared.tag.Tag.TheVariants.{Rule}
 use Rattle.ig_item.specs.Step.{Term}
@@ -24,8 +25,8 @@ doubled = root ∷ start ∷ []
 -- for a text with n characters at most 7 (n + 1) (n + 2) / 2 items are reachable
 abbrev pub DoubledBudgetsSuffice : Type 0
 DoubledBudgetsSuffice =
-    (text : List ℕ) (budget : ℕ) → 7 * (length text + 1) * (length text + 2) / 2 ≤ budget → MoreThan doubled text budget → ⊥
+    (text : Input) (budget : ℕ) → 7 * (length text.characters + 1) * (length text.characters + 2) / 2 ≤ budget → MoreThan doubled text budget → ⊥
 
 -- for n letters `a`, whose code is 97, at least n (n + 1) / 2 are: those behind the first call of `S S` alone are so many
 abbrev pub DoubledNeedsBudgets : Type 0
-DoubledNeedsBudgets = (n budget : ℕ) → budget < n * (n + 1) / 2 → MoreThan doubled (replicate n 97) budget
+DoubledNeedsBudgets = (n budget : ℕ) → budget < n * (n + 1) / 2 → MoreThan doubled (untabbed (replicate n 97)) budget

@@ -7,6 +7,7 @@ use Rattle.ig_item.specs.declared.items.Instance.{Instance}
 use Rattle.ig_item.specs.declared.items.Item as stored
 use Rattle.ig_item.specs.declared.run_fault.RunFault.{RunFault}
 use Rattle.ig_item.specs.declared.run_fault.RunFault.TheVariants.{Budget}
+use Rattle.ig_text.specs.Input.{Input}
 use Rattle.ig_text.specs.declared.pattern.Pattern.{Pattern}
 use Rattle.ig_run_moves.specs.Rules.{IsBehind}
 use Rattle.ig_run_moves.specs.Tables.{IsNamed, item_by}
@@ -97,7 +98,7 @@ AddsLater p x budget a b result =
     (λ f. f ≡ Budget → GrowsLater p x a b × (budget < count b))
 
 -- the item behind a terminal was added, at the position or at a later one, if there is one
-pub data AddsTerminal (text : List ℕ) (what : Pattern) (label : Option (List ℕ)) (excluded : List Pattern) (budget p : ℕ) (it : Item) (a b : Found)
+pub data AddsTerminal (text : Input) (what : Pattern) (label : Option (List ℕ)) (excluded : List Pattern) (budget p : ℕ) (it : Item) (a b : Found)
     (result : Result (Unit {0}) RunFault) : Type 0 where
   here : Adds p (IsBehind text what label excluded it) budget a b result → AddsTerminal text what label excluded budget p it a b result
   later : (x : Item) → IsBehind text what label excluded it x → ((y : Item) → IsBehind text what label excluded it y → y ≡ x) →

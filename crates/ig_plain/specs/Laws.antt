@@ -1,6 +1,7 @@
 -- Which budgets are enough.
 use Rattle.std.specs.Prelude.{◌≡◌, ℕ, ◌+◌, ◌*◌, ◌/◌, ◌≤◌, List, [], length, Contains}
 use Rattle.std.specs.List.{flat_map}
+use Rattle.ig_text.specs.Input.{Input}
 use Rattle.ig_item.specs.Step.{names_of}
 use Rattle.ig_item.specs.Core.{dots}
 use Rattle.ig_item.specs.WellKinded.{IsWellKinded, OfEach}
@@ -10,7 +11,7 @@ use Rattle.ig_item.specs.declared.core_grammar.Nonterminal.{Nonterminal}
 -- a budget of as many items as a list has that contains all reachable ones is never exceeded
 abbrev pub BudgetsSuffice : Type 0
 BudgetsSuffice =
-    (core : List Nonterminal) (text : List ℕ) (items : List Item) →
+    (core : List Nonterminal) (text : Input) (items : List Item) →
     ((x : Item) → Reachable core text x → Contains items x) → MoreThan core text (length items) → ⊥
 
 -- no nonterminal has parameters, and no step binds a name: it is no `Bind`, and has no label
@@ -22,5 +23,5 @@ pub record IsPlain (core : List Nonterminal) : Type 0 where
 -- characters: an item is told by its dot, its start and its position, of which 0 ≤ start ≤ position ≤ n holds
 abbrev pub PlainBudgetsSuffice : Type 0
 PlainBudgetsSuffice =
-    (core : List Nonterminal) (text : List ℕ) (budget : ℕ) → IsWellKinded core → IsPlain core →
-    dots core * (length text + 1) * (length text + 2) / 2 ≤ budget → MoreThan core text budget → ⊥
+    (core : List Nonterminal) (text : Input) (budget : ℕ) → IsWellKinded core → IsPlain core →
+    dots core * (length text.characters + 1) * (length text.characters + 2) / 2 ≤ budget → MoreThan core text budget → ⊥

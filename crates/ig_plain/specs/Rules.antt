@@ -1,5 +1,6 @@
 -- What comes of an item at one position.
 use Rattle.std.specs.Prelude.{◌≡◌, ℕ, ◌≤◌, List, [], Option, None}
+use Rattle.ig_text.specs.Input.{Input}
 use Rattle.ig_text.specs.declared.pattern.Pattern.{Pattern}
 use Rattle.ig_expr.specs.Expression.{Expression}
 use Rattle.ig_item.specs.Step.{Call}
@@ -35,7 +36,7 @@ pub record StandsAtBareCall (core : List Nonterminal) (it : Item) : Type 0 where
   pub before : StandsBefore core it names (Call callee arguments None [])
 
 -- x is the item after the call before which `it` stands, where the callee ended at `end`
-pub record IsReturn (core : List Nonterminal) (text : List ℕ) (it : Item) (end : ℕ) (x : Item) : Type 0 where
+pub record IsReturn (core : List Nonterminal) (text : Input) (it : Item) (end : ℕ) (x : Item) : Type 0 where
   pub call : StandsAtCall core it
   pub free : MatchesNone text call.excluded it.position end
   pub is : x ≡ past it (span_of call.label it.position end) end

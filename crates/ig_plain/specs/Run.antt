@@ -1,5 +1,6 @@
 -- What a run in rising positions keeps.
 use Rattle.std.specs.Prelude.{◌≡◌, ◌↔◌, ◌⊎◌, ℕ, zero, suc, ◌<◌, ◌≤◌, List, [], ◌∷◌, ◌++◌, length, Contains, Some, slice_get, Result, MatchResult}
+use Rattle.ig_text.specs.Input.{Input}
 use Rattle.ig_item.specs.Core.{IsAlternative}
 use Rattle.ig_item.specs.Items.{Item, Follows, Reachable, MoreThan, IsComplete, first}
 use Rattle.ig_item.specs.declared.core_grammar.Nonterminal.{Nonterminal}
@@ -41,7 +42,7 @@ pub record IsChainOf (core : List Nonterminal) (cells : List Caller) (head : ℕ
   pub calls : (y : stored.Item) → Contains chain y → StandsAtCall core (means s y)
 
 -- x is the item after the call before which an item of the chain stands
-pub record IsReturnToOne (core : List Nonterminal) (text : List ℕ) (cells : List Caller) (head end : ℕ) (s : Found) (x : Item) :
+pub record IsReturnToOne (core : List Nonterminal) (text : Input) (cells : List Caller) (head end : ℕ) (s : Found) (x : Item) :
     Type 0 where
   pub chain : List stored.Item
   pub chained : Chains cells head chain
@@ -50,7 +51,7 @@ pub record IsReturnToOne (core : List Nonterminal) (text : List ℕ) (cells : Li
   pub returns : IsReturn core text (means s caller) end x
 
 -- the chain between these two has exactly the taken items that call the instance
-pub record HasCallers (core : List Nonterminal) (text : List ℕ) (s : Found) (taken : List Item) (cells : List Caller) (head last : ℕ)
+pub record HasCallers (core : List Nonterminal) (text : Input) (s : Found) (taken : List Item) (cells : List Caller) (head last : ℕ)
     (callee : Instance) : Type 0 where
   pub chain : List stored.Item
   pub chained : Chains cells head chain
@@ -68,7 +69,7 @@ pub record HasEnd (core : List Nonterminal) (taken : List Item) (callee : Instan
   pub ends : item.position ≡ p
 
 -- for each instance its callers among the taken items, and whether one of those is a complete item of it at p
-pub record IsWaiting (core : List Nonterminal) (text : List ℕ) (p : ℕ) (s : Found) (taken : List Item) (w : Waiting) : Type 0 where
+pub record IsWaiting (core : List Nonterminal) (text : Input) (p : ℕ) (s : Found) (taken : List Item) (w : Waiting) : Type 0 where
   pub lengths : length w.called.items ≡ length (instances_in s)
   pub callers : (i : ℕ) (callee : Instance) (called : Called) → slice_get (instances_in s) i ≡ Some callee →
       slice_get w.called.items i ≡ Some called → HasCallers core text s taken w.callers.items called.first called.last callee
@@ -78,7 +79,7 @@ pub record IsWaiting (core : List Nonterminal) (text : List ℕ) (p : ℕ) (s : 
   pub before : (i : ℕ) (called : Called) (e : ℕ) → slice_get w.called.items i ≡ Some called → called.last_end ≡ Some e → e ≤ p
 
 -- k of the items at p are taken: all are reachable, and all that follows from those taken is found
-pub record IsTaking (core : List Nonterminal) (text : List ℕ) (budget p k : ℕ) (s : Found) : Type 0 where
+pub record IsTaking (core : List Nonterminal) (text : Input) (budget p k : ℕ) (s : Found) : Type 0 where
   pub stored : IsStored p s
   pub reachable : (x : Item) → Contains (found_in s ++ later_in s) x → Reachable core text x
   pub closed : (x : Item) → Follows core text (Contains (taken_in s k)) x → Contains (found_in s ++ later_in s) x
@@ -89,7 +90,7 @@ pub record IsTaking (core : List Nonterminal) (text : List ℕ) (budget p k : �
   pub within : count s ≤ budget
 
 -- the same, with the first items of each instance, and what waits for it
-pub record IsRun (core : List Nonterminal) (text : List ℕ) (budget p k : ℕ) (s : Found) (w : Waiting) : Type 0 where
+pub record IsRun (core : List Nonterminal) (text : Input) (budget p k : ℕ) (s : Found) (w : Waiting) : Type 0 where
   pub taking : IsTaking core text budget p k s
   pub firsts : (callee : Instance) → Contains (instances_in s) callee → (a : ℕ) (nonterminal : Nonterminal)
       (alternative : CoreAlt) → IsAlternative core callee.nonterminal a nonterminal alternative →
@@ -97,28 +98,28 @@ pub record IsRun (core : List Nonterminal) (text : List ℕ) (budget p k : ℕ) 
   pub waiting : IsWaiting core text p s (taken_in s k) w
 
 -- why no items were given; want of memory may come at any time
-abbrev pub Refuses : List Nonterminal → List ℕ → ℕ → RunFault → Type 0
+abbrev pub Refuses : List Nonterminal → Input → ℕ → RunFault → Type 0
 Refuses core text budget fault.Budget = MoreThan core text budget
 Refuses core text budget fault.Memory = Unit {0}
 
 -- the item is the next one that is taken
-pub record Taking (core : List Nonterminal) (text : List ℕ) (budget : ℕ) (item : stored.Item) (s : Found) (w : Waiting) : Type 0 where
+pub record Taking (core : List Nonterminal) (text : Input) (budget : ℕ) (item : stored.Item) (s : Found) (w : Waiting) : Type 0 where
   pub number : ℕ
   pub run : IsRun core text budget item.position number s w
   pub at : slice_get s.here.items number ≡ Some item
 
 -- k items were taken, and then one more; or it was refused
-abbrev pub IsTaken : List Nonterminal → List ℕ → ℕ → ℕ → ℕ → Found → Waiting → Result (Unit {0}) RunFault → Type 0
+abbrev pub IsTaken : List Nonterminal → Input → ℕ → ℕ → ℕ → Found → Waiting → Result (Unit {0}) RunFault → Type 0
 IsTaken core text budget p k t w result =
     MatchResult result (λ u. IsRun core text budget p (suc k) t w) (Refuses core text budget)
 
 -- the item, which is one of those at the position, was taken or refused
-abbrev pub Takes : List Nonterminal → List ℕ → ℕ → stored.Item → Found → Found → Waiting → Result (Unit {0}) RunFault → Type 0
+abbrev pub Takes : List Nonterminal → Input → ℕ → stored.Item → Found → Found → Waiting → Result (Unit {0}) RunFault → Type 0
 Takes core text budget item s t w result =
     (k : ℕ) → slice_get s.here.items k ≡ Some item → IsTaken core text budget item.position k t w result
 
 -- the instance of that key has number i now, with its first items; k items are taken as before
-pub record IsEntered (core : List Nonterminal) (text : List ℕ) (budget k : ℕ) (key : InstanceKey) (s t : Found) (v : Waiting) (i : ℕ) :
+pub record IsEntered (core : List Nonterminal) (text : Input) (budget k : ℕ) (key : InstanceKey) (s t : Found) (v : Waiting) (i : ℕ) :
     Type 0 where
   pub run : IsRun core text budget key.start k t v
   pub there : slice_get t.keys i ≡ Some key
@@ -131,6 +132,6 @@ pub record IsEntered (core : List Nonterminal) (text : List ℕ) (budget k : ℕ
 
 abbrev pub EntersInstance : List Nonterminal → ℕ → InstanceKey → Found → Found → Waiting → Waiting → Result ℕ RunFault → Type 0
 EntersInstance core budget key s t w v result =
-    (text : List ℕ) (k : ℕ) → IsRun core text budget key.start k s w →
+    (text : Input) (k : ℕ) → IsRun core text budget key.start k s w →
     ((x : Item) → IsFirstOf core (instance_by s.envs.keys key) x → Reachable core text x) →
     MatchResult result (IsEntered core text budget k key s t v) (Refuses core text budget)

@@ -1,5 +1,6 @@
 -- How the items that a run has found came about.
 use Rattle.std.specs.Prelude.{◌≡◌, ◌⊎◌, ℕ, suc, ◌+◌, ◌<◌, List, [], ◌∷◌, ◌++◌, map, length, Contains, Option, Some, slice_get, IsTrue, Result, OnOk}
+use Rattle.ig_text.specs.Input.{Input}
 use Rattle.ig_text.specs.declared.pattern.Pattern.{Pattern}
 use Rattle.ig_item.specs.Items.{Item}
 use Rattle.ig_item.specs.Gives.{Taken, Gives}
@@ -101,7 +102,7 @@ pub record RecordsLater (n : ℕ) (x : Item) (a b : Found) (t u : Trail) : Type 
   pub indexed : IsIndexed a t → IsIndexed b u
 
 -- the way to the item behind a terminal was recorded, if there is one
-pub data RecordsTerminal (text : List ℕ) (what : Pattern) (label : Option (List ℕ)) (excluded : List Pattern) (n : ℕ) (it : Item)
+pub data RecordsTerminal (text : Input) (what : Pattern) (label : Option (List ℕ)) (excluded : List Pattern) (n : ℕ) (it : Item)
     (a b : Found) (t u : Trail) : Type 0 where
   here : Records (By (Leaf n) (IsBehind text what label excluded it)) a b t u →
       RecordsTerminal text what label excluded n it a b t u
@@ -117,7 +118,7 @@ abbrev pub AreKnown : List Nonterminal → Found → List Caller → Type 0
 AreKnown core s cells = (cell : Caller) → Contains cells cell → IsKnown core s cell
 
 -- x is the item after the call before which an item of the chain stands, and came about by that
-pub record IsReturnBy (core : List Nonterminal) (text : List ℕ) (cells : List Caller) (head done end : ℕ) (s : Found)
+pub record IsReturnBy (core : List Nonterminal) (text : Input) (cells : List Caller) (head done end : ℕ) (s : Found)
     (way : Way) (x : Item) : Type 0 where
   pub returns : IsReturnToOne core text cells head end s x
   pub number : ℕ
@@ -131,7 +132,7 @@ pub record IsCame (core : List Nonterminal) (s : Found) (t : Trail) (taken : Lis
   pub says : Says core (Contains taken) (found_in s) x.position way prev what
 
 -- each item that was found came about in exactly the ways that the rules give from those taken
-pub record FollowTrail (core : List Nonterminal) (text : List ℕ) (s : Found) (t : Trail) (taken : List Item) : Type 0 where
+pub record FollowTrail (core : List Nonterminal) (text : Input) (s : Found) (t : Trail) (taken : List Item) : Type 0 where
   pub numbered : length t.ways.firsts ≡ length (found_in s)
   pub later_numbered : length t.later.items ≡ length (later_in s)
   pub there : (more : FurtherWay) → Contains t.ways.further more → more.item < length (found_in s)
@@ -141,7 +142,7 @@ pub record FollowTrail (core : List Nonterminal) (text : List ℕ) (s : Found) (
 
 -- k of the items at p are taken, and the ways to all that were found are recorded; callers and ends have their numbers, and
 -- those behind calls are known
-pub record HasTrail (core : List Nonterminal) (text : List ℕ) (p k : ℕ) (s : Found) (w : Waiting) (t : Trail) : Type 0 where
+pub record HasTrail (core : List Nonterminal) (text : Input) (p k : ℕ) (s : Found) (w : Waiting) (t : Trail) : Type 0 where
   pub ways : FollowTrail core text s t (taken_in s k)
   pub callers : AreKnown core s w.callers.items
   pub ends : (i : ℕ) (callee : Instance) (called : Called) → slice_get (instances_in s) i ≡ Some callee →
@@ -150,7 +151,7 @@ pub record HasTrail (core : List Nonterminal) (text : List ℕ) (p k : ℕ) (s :
   pub indexed : IsIndexed s t
 
 -- the item, which has that number, is the next one that is taken
-pub record IsNext (core : List Nonterminal) (text : List ℕ) (item : stored.Item) (number : ℕ) (s : Found) (w : Waiting) (t : Trail) :
+pub record IsNext (core : List Nonterminal) (text : Input) (item : stored.Item) (number : ℕ) (s : Found) (w : Waiting) (t : Trail) :
     Type 0 where
   pub place : ℕ
   pub at : slice_get s.here.items place ≡ Some item
@@ -158,14 +159,14 @@ pub record IsNext (core : List Nonterminal) (text : List ℕ) (item : stored.Ite
   pub trail : HasTrail core text item.position place s w t
 
 -- the item, which is one of those at the position, was taken
-abbrev pub TakesOn : List Nonterminal → List ℕ → stored.Item → Found → Found → Waiting → Trail → Result (Unit {0}) RunFault → Type 0
+abbrev pub TakesOn : List Nonterminal → Input → stored.Item → Found → Found → Waiting → Trail → Result (Unit {0}) RunFault → Type 0
 TakesOn core text item s t w u result =
     (k : ℕ) → slice_get s.here.items k ≡ Some item → OnOk result (HasTrail core text item.position (suc k) t w u)
 
 -- the instance of that key was entered, and the ways to its first items are recorded; k items are taken as before
 abbrev pub EntersOn : List Nonterminal → ℕ → InstanceKey → Found → Found → Waiting → Waiting → Trail → Trail → Result ℕ RunFault → Type 0
 EntersOn core budget key s t w v trail u result =
-    (text : List ℕ) (k : ℕ) → IsRun core text budget key.start k s w → HasTrail core text key.start k s w trail →
+    (text : Input) (k : ℕ) → IsRun core text budget key.start k s w → HasTrail core text key.start k s w trail →
     OnOk result (HasTrail core text key.start k t v u)
 
 -- the later items, each with the number of the item from which it came, were parted into those at the position, which

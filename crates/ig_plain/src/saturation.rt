@@ -1,6 +1,7 @@
 //! Saturation in rising positions.
-ghost use Rattle.std.specs.Prelude.{◌≡◌, ◌≤◌, ◌<◌, ◌++◌, ℕ, [], List, IfErr, IfOk};
+ghost use Rattle.std.specs.Prelude.{◌≡◌, ◌≤◌, ◌<◌, ◌++◌, [], IfErr, IfOk};
 ghost use Rattle.std.specs.Prelude.{MatchResult, OnOk, length};
+ghost use Rattle.ig_text.specs.Input.{Input};
 ghost use Rattle.ig_item.specs.Items.{MoreThan};
 ghost use Rattle.ig_item.specs.Recorded.{AreReachable, IsRecorded};
 ghost use Rattle.ig_item.specs.Tables.{items_of, tables_by};
@@ -98,10 +99,10 @@ fn arrive(found: &mut Found, trail: &mut Trail, position: u32) -> Result<(), All
 fn start(context: &Context<'_>, run: &mut Run) -> Result<(), RunFault>
     requires empty { IsNothing run.old.found run.old.waiting }
     requires untrodden { IsUntrodden run.old.waiting run.old.trail }
-    ensures run { (text : List ℕ) → MatchResult result (λ _. IsRun context.now.core.now text
+    ensures run { (text : Input) → MatchResult result (λ _. IsRun context.now.core.now text
         context.now.budget 0 0 run.new.found run.new.waiting)
         (Refuses context.now.core.now text context.now.budget) }
-    ensures trail { (text : List ℕ) → OnOk result (HasTrail context.now.core.now text 0 0
+    ensures trail { (text : Input) → OnOk result (HasTrail context.now.core.now text 0 0
         run.new.found run.new.waiting run.new.trail) }
 {
     reachable_is_closed();
@@ -119,7 +120,7 @@ fn start(context: &Context<'_>, run: &mut Run) -> Result<(), RunFault>
 
 /// The last position.
 fn last_position(text: &Text) -> u32
-    ensures { result ≡ length text.now }
+    ensures { result ≡ length text.now.characters }
 {
     text.len()
 }
@@ -128,9 +129,9 @@ fn last_position(text: &Text) -> u32
 fn run_to_end(context: &Context<'_>, run: &mut Run) -> Result<(), RunFault>
     requires nothing { IsNothing run.old.found run.old.waiting }
     requires untrodden { IsUntrodden run.old.waiting run.old.trail }
-    ensures run { RunsIn context.now (length context.now.text.now)
+    ensures run { RunsIn context.now (length context.now.text.now.characters)
         (length run.new.found.here.items) run.new result }
-    ensures trail { OnOk result (HasTrailIn context.now (length context.now.text.now)
+    ensures trail { OnOk result (HasTrailIn context.now (length context.now.text.now.characters)
         (length run.new.found.here.items) run.new) }
 {
     start(context, run)?;
@@ -145,10 +146,11 @@ fn run_to_end(context: &Context<'_>, run: &mut Run) -> Result<(), RunFault>
 
 /// A run that has taken all items.
 fn completed(alloc: Global, core: &Core, text: &Text, budget: u32) -> Result<Run, RunFault>
-    ensures run { MatchResult result (λ r. IsRun core.now text.now budget (length text.now) (length
-        r.found.here.items) r.found r.waiting) (Refuses core.now text.now budget) }
-    ensures trail { IfOk result (λ r. HasTrail core.now text.now (length text.now) (length
-        r.found.here.items) r.found r.waiting r.trail) }
+    ensures run { MatchResult result (λ r. IsRun core.now text.now budget
+        (length text.now.characters) (length r.found.here.items) r.found r.waiting)
+        (Refuses core.now text.now budget) }
+    ensures trail { IfOk result (λ r. HasTrail core.now text.now (length text.now.characters)
+        (length r.found.here.items) r.found r.waiting r.trail) }
 {
     let dots = dots_of_core(alloc, core)?;
     let context = Context {

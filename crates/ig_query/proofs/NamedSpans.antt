@@ -2,6 +2,7 @@
 use Rattle.std.proofs.Common.{◌≡◌, ℕ, List, Some, slice_get, Contains, sym, ap, ◌∙◌, subst}
 use Rattle.std.specs.Prelude.{option_map}
 use Rattle.std.proofs.lemmas.Option.{same_Some, slice_get_within}
+use Rattle.ig_text.specs.Input.{Input}
 use Rattle.ig_text.specs.declared.tag.Tag.TheVariants.{Rule}
 use Rattle.ig_text.specs.declared.text.Span.{Span}
 use Rattle.ig_text.proofs.Lists.{contains_from_at}
@@ -37,7 +38,7 @@ chosen {f = f} v node at (ways.choose w d i n choice bs cs ts t there among of_i
       (subst (λ (z : forest.Node). slice_get z.alternatives i ≡ Some choice) (same_Some n node (sym there ∙ at)) among),
 )
 
-module _ (core : List Nonterminal) (text : List ℕ) (f : Forest) (kinded : IsWellKinded core) (uniform : AreUniform core)
+module _ (core : List Nonterminal) (text : Input) (f : Forest) (kinded : IsWellKinded core) (uniform : AreUniform core)
     (is : IsReduced core text f) where
   -- what the reduced forest says of a node
   node_of : (v : ℕ) (node : forest.Node) → slice_get f.nodes v ≡ Some node → (key : NodeKey) × IsNode core is.items key node

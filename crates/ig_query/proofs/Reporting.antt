@@ -1,10 +1,11 @@
 -- The report, from what was found among the reachable items.
-use Rattle.std.proofs.Common.{◌≡◌, ◌↔◌, ⊎_elim, inl, inr, ℕ, zero, suc, ◌+◌, ◌≤◌, List, [], ◌∷◌, Option, Some, None, take, Bool, true, false, if◌then◌else◌, IsTrue, length, Contains, refl, sym, ap, ◌∙◌, subst, arith}
+use Rattle.std.proofs.Common.{◌≡◌, ◌↔◌, ⊎_elim, inl, inr, ℕ, ◌≤◌, List, Option, Some, None, Bool, true, false, if◌then◌else◌, IsTrue, length, Contains, refl, sym, ap, ◌∙◌, subst, arith}
 use Rattle.std.specs.List.{filter_map}
 use Rattle.std.specs.Prelude.{ℤ, pos, nat_le}
 use Rattle.std.proofs.lemmas.Bool.Decides.{nat_tests}
 use Rattle.std.proofs.lemmas.Option.{same_Some}
-use Rattle.ig_text.specs.Lines.{since_line_feed, is_line_feed, line_at, line_of, column_at, column_of}
+use Rattle.ig_text.specs.Input.{Input}
+use Rattle.ig_text.specs.Lines.{line_at, line_of, column_at, column_of}
 use Rattle.ig_text.specs.declared.pattern.Pattern.{Pattern}
 use Rattle.ig_item.specs.Items.{Item}
 use Rattle.ig_item.specs.Laws.{BehindIsLookedUp, ItemsAreInText}
@@ -17,7 +18,7 @@ use Rattle.ig_query.specs.declared.dots.Dot.{Dot}
 use Rattle.ig_query.proofs.LookedUp.{expects_found}
 use Rattle.ig_query.proofs.Through.{from_filter_map, to_filter_map}
 
-module _ (core : List Nonterminal) (text : List ℕ) (items : List Item) (are : AreReachable core text items) where
+module _ (core : List Nonterminal) (text : Input) (items : List Item) (are : AreReachable core text items) where
   furthest_reached : (p : ℕ) → IsFurthestAmong core items p → IsFurthest core text p
   furthest_reached p among =
       record {
@@ -66,7 +67,7 @@ module _ (core : List Nonterminal) (text : List ℕ) (items : List Item) (are : 
       }
 
   -- the furthest position is in the text
-  pub furthest_within : ItemsAreInText → (p : ℕ) → IsFurthestAmong core items p → p ≤ length text
+  pub furthest_within : ItemsAreInText → (p : ℕ) → IsFurthestAmong core items p → p ≤ length text.characters
   furthest_within law p among =
       ⊎_elim
       (λ r.
@@ -75,46 +76,27 @@ module _ (core : List Nonterminal) (text : List ℕ) (items : List Item) (are : 
       omega (arith, within, there))
       (λ n. let zero_is = n.1 in omega (arith, zero_is)) among.reached
 
--- a column is at most one more than the position
-since_step : (n c : ℕ) (cs : List ℕ) (b : Bool) → since_line_feed 0 cs ≤ 0 + length cs → since_line_feed (n + 1) cs ≤ (n + 1) + length cs →
-    (if b then since_line_feed 0 cs else since_line_feed (n + 1) cs) ≤ n + length (c ∷ cs)
-since_step n c cs true again later = omega (arith, again)
-since_step n c cs false again later = omega (arith, later)
-
-since_small : (n : ℕ) (xs : List ℕ) → since_line_feed n xs ≤ n + length xs
-since_small n [] = omega arith
-since_small n (c ∷ cs) = since_step n c cs (is_line_feed c) (since_small 0 cs) (since_small (n + 1) cs)
-
 -- a position within the text has a line, which is the one that is read
-pub line_there : (text : List ℕ) (p : ℕ) (o : Option ℕ) → p ≤ length text → o ≡ line_at text p → o ≡ None → ⊥
-line_there text p o within read none = by (nat_le p (length text)) refl (sym read ∙ none)
+pub line_there : (text : Input) (p : ℕ) (o : Option ℕ) → p ≤ length text.characters → o ≡ line_at text p → o ≡ None → ⊥
+line_there text p o within read none = by (nat_le p (length text.characters)) refl (sym read ∙ none)
   where
-    by : (b : Bool) → nat_le p (length text) ≡ b → (if b then Some (line_of text p) else None) ≡ None → ⊥
+    by : (b : Bool) → nat_le p (length text.characters) ≡ b → (if b then Some (line_of text p) else None) ≡ None → ⊥
     by true e same = cc
     by false e same = grind (arith, nat_tests)
 
-pub line_number : (text : List ℕ) (p line : ℕ) (o : Option ℕ) → o ≡ line_at text p → o ≡ Some line → line ≡ line_of text p
-line_number text p line o read some = by (nat_le p (length text)) (sym read ∙ some)
+pub line_number : (text : Input) (p line : ℕ) (o : Option ℕ) → o ≡ line_at text p → o ≡ Some line → line ≡ line_of text p
+line_number text p line o read some = by (nat_le p (length text.characters)) (sym read ∙ some)
   where
     by : (b : Bool) → (if b then Some (line_of text p) else None) ≡ Some line → line ≡ line_of text p
     by true e = sym (same_Some _ line e)
     by false e = cc
 
 -- the column that is read
-pub column_number : (text : List ℕ) (p : ℕ) (z column : ℤ) (o : Option ℤ) → z ≡ pos p → o ≡ column_at text z → o ≡ Some column →
+pub column_number : (text : Input) (p : ℕ) (z column : ℤ) (o : Option ℤ) → z ≡ pos p → o ≡ column_at text z → o ≡ Some column →
     column ≡ pos (column_of text p)
 column_number text p z column o is read some =
-    by (nat_le p (length text)) (ap (column_at text) (sym is) ∙ sym read ∙ some)
+    by (nat_le p (length text.characters)) (ap (column_at text) (sym is) ∙ sym read ∙ some)
   where
     by : (b : Bool) → (if b then Some (pos (column_of text p)) else None) ≡ Some column → column ≡ pos (column_of text p)
     by true e = sym (same_Some _ column e)
     by false e = cc
-
-take_short : (p : ℕ) (xs : List ℕ) → length (take p xs) ≤ p
-take_short zero xs = omega arith
-take_short (suc p) [] = omega arith
-take_short (suc p) (x ∷ xs) = let h = take_short p xs in omega (arith, h)
-
-pub column_small : (text : List ℕ) (p : ℕ) → column_of text p ≤ p + 1
-column_small text p =
-    let since = since_small 0 (take p text) in let short = take_short p text in omega (arith, since, short)

@@ -1,5 +1,6 @@
 -- What the functions that make a report promise to each other.
 use Rattle.std.specs.Prelude.{◌≡◌, ◌↔◌, ◌⊎◌, ℕ, ◌≤◌, List, Contains, Option, Some, None}
+use Rattle.ig_text.specs.Input.{Input}
 use Rattle.ig_text.specs.declared.pattern.Pattern.{Pattern}
 use Rattle.ig_item.specs.Behind.{Behind, Next, End, behind_at}
 use Rattle.ig_item.specs.Items.{Item, IsCompleteRoot, Reachable}
@@ -44,5 +45,5 @@ abbrev pub EndsAt : List Nonterminal → List Item → ℕ → Type 0
 EndsAt core items p = (x : Item) × Contains items x × (x.position ≡ p) × IsCompleteRoot core x
 
 -- the items are the reachable ones
-abbrev pub AreReachable : List Nonterminal → List ℕ → List Item → Type 0
+abbrev pub AreReachable : List Nonterminal → Input → List Item → Type 0
 AreReachable core text items = (x : Item) → Contains items x ↔ Reachable core text x

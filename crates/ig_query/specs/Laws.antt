@@ -1,5 +1,6 @@
 -- What the answers say of the trees of a forest.
 use Rattle.std.specs.Prelude.{◌↔◌, ℕ, List}
+use Rattle.ig_text.specs.Input.{Input}
 use Rattle.ig_text.specs.declared.tag.Tag.{Tag}
 use Rattle.ig_text.specs.declared.tag.Tag.TheVariants.{Rule}
 use Rattle.ig_text.specs.declared.text.Span.{Span}
@@ -33,7 +34,7 @@ pub record TreesHaveSpan (core : List Nonterminal) (f : Forest) (name : List ℕ
 
 abbrev pub SpansAreThoseOfTrees : Type 0
 SpansAreThoseOfTrees =
-    (core : List Nonterminal) (text : List ℕ) (f : Forest) (name : List ℕ) (span : Span) → IsWellKinded core → AreUniform core →
+    (core : List Nonterminal) (text : Input) (f : Forest) (name : List ℕ) (span : Span) → IsWellKinded core → AreUniform core →
     IsReduced core text f → HasSpan f name span ↔ TreesHaveSpan core f name span
 
 -- a forest whose trees have one cursor each has an ambiguous node exactly where its root has two different trees

@@ -35,7 +35,7 @@ pub fn report(alloc: Global, items: &Items, core: &Core, text: &Text) -> Result<
 
 /// The line of a position in the text.
 fn line_of(text: &Text, position: u32) -> u32
-    requires { position ≤ length text.now }
+    requires { position ≤ length text.now.characters }
     ensures { result ≡ line_of text.now position }
 {
     match text.line(position) {
@@ -46,7 +46,7 @@ fn line_of(text: &Text, position: u32) -> u32
 
 /// The column of a position in the text.
 fn column_of(text: &Text, position: u32) -> u32
-    requires { position ≤ length text.now }
+    requires { position ≤ length text.now.characters }
     ensures { result ≡ column_of text.now position }
 {
     let _characters = text.len();

@@ -1,6 +1,7 @@
 -- What follows as one more item is known, alone or with those before it, and in which way.
 use Rattle.std.proofs.Common.{◌≡◌, ◌⊎◌, ⊎_elim, inl, inr, ℕ, List, Some, Contains, refl, sym, ◌∙◌, subst, slice_get}
 use Rattle.std.proofs.lemmas.Option.{same_Some}
+use Rattle.ig_text.specs.Input.{Input}
 use Rattle.ig_text.proofs.Lists.{at_from_contains, unmapped_in}
 use Rattle.ig_item.specs.Items as items
 use Rattle.ig_item.specs.Items.{Item, Follows, IsComplete, Calls, MatchesNone, past, span_of}
@@ -16,7 +17,7 @@ use Rattle.ig_run_laws.specs.Stacks.{Node, Pop, AreStacks, HaveNodes, HasEdge, H
 use Rattle.ig_run_laws.proofs.Known.{IsKnownToo}
 use Rattle.ig_run_laws.proofs.Steps.{ends_call_nothing}
 
-module _ (core : List Nonterminal) (text : List ℕ) (known wider : Item → Type 0) (it : Item)
+module _ (core : List Nonterminal) (text : Input) (known wider : Item → Type 0) (it : Item)
     (or : (y : Item) → wider y → known y ⊎ (y ≡ it)) where
   -- what follows from more by one item followed before, or follows from that item
   pub splits : (x : Item) → Follows core text wider x → Follows core text known x ⊎ After core text wider it x
@@ -44,7 +45,7 @@ module _ (core : List Nonterminal) (text : List ℕ) (known wider : Item → Typ
       (λ (h : y ≡ it). inr (subst (λ (u : Item). After core text wider u z) h (rules.return done label excluded l calls complete free e)))
       (or y k)
 
-module _ (core : List Nonterminal) (text : List ℕ) (wider : Item → Type 0) (it : Item) (there : wider it) where
+module _ (core : List Nonterminal) (text : Input) (wider : Item → Type 0) (it : Item) (there : wider it) where
   -- what follows from a known item follows
   pub after_follows : (x : Item) → After core text wider it x → Follows core text wider x
   after_follows x (rules.test names e before holds f) = items.test it names e x there before holds f
@@ -62,7 +63,7 @@ module _ (core : List Nonterminal) (text : List ℕ) (wider : Item → Type 0) (
 pub node_of : (nodes : List Node) (i : Instance) → Contains (keys_of nodes) i → (node : Node) × Contains nodes node × (node.key ≡ i)
 node_of nodes i c = unmapped_in (λ node. node.key) nodes i c
 
-module _ (core : List Nonterminal) (text : List ℕ) (known : Item → Type 0) (found : List Item) (nodes : List Node)
+module _ (core : List Nonterminal) (text : Input) (known : Item → Type 0) (found : List Item) (nodes : List Node)
     (s : AreStacks core text known found nodes) (h : HaveNodes found nodes) (are_found : (y : Item) → known y → Contains found y) where
   -- a known complete item has a pop
   pub pop_of : (done : Item) → known done → IsComplete core done →
@@ -98,7 +99,7 @@ pub record IsDone (core : List Nonterminal) (known : Item → Type 0) (found : L
   pub complete : IsComplete core item
   pub ends : item.position ≡ p.end
 
-pub done_of : (core : List Nonterminal) (text : List ℕ) (known : Item → Type 0) (found : List Item) (nodes : List Node) →
+pub done_of : (core : List Nonterminal) (text : Input) (known : Item → Type 0) (found : List Item) (nodes : List Node) →
     AreStacks core text known found nodes → (i : Instance) (p : Pop) → HasPop nodes i p → IsDone core known found i p
 done_of core text known found nodes s i p q =
     let e = s.dones q.0 q.1 p q.3 in
@@ -112,11 +113,11 @@ done_of core text known found nodes s i p q =
     }
 
 -- a return is one rule with a known complete item
-pub calls_of : (core : List Nonterminal) (text : List ℕ) (it : Item) (i j : Instance) (p : ℕ) (x : Item) (r : IsReturn core text it i p x) → j ≡ i →
+pub calls_of : (core : List Nonterminal) (text : Input) (it : Item) (i j : Instance) (p : ℕ) (x : Item) (r : IsReturn core text it i p x) → j ≡ i →
     Calls core text it j r.label r.excluded
 calls_of core text it i j p x r e = subst (λ (z : Instance). Calls core text it z r.label r.excluded) (sym e) r.calls
 
-module _ (core : List Nonterminal) (text : List ℕ) (known wider : Item → Type 0) (found : List Item) (it : Item) (k : ℕ)
+module _ (core : List Nonterminal) (text : Input) (known wider : Item → Type 0) (found : List Item) (it : Item) (k : ℕ)
     (nodes : List Node) (s : AreStacks core text known found nodes) (h : HaveNodes found nodes)
     (too : IsKnownToo known wider found it k) where
   abbrev Some_way : Item → Type 0

@@ -1,6 +1,7 @@
 -- A run begins with the first root item, which waits, and with the node of the root.
 use Rattle.std.proofs.Common.{◌≡◌, ◌↔◌, ◌⊎◌, ⊎_elim, inl, ℕ, zero, suc, List, [], ◌∷◌, Some, Contains, refl, sym, ap, subst, slice_get}
 use Rattle.std.proofs.lemmas.Option.{same_Some}
+use Rattle.ig_text.specs.Input.{Input}
 use Rattle.ig_text.proofs.Lists.{contains_one, it_is_in, none_in_nil}
 use Rattle.ig_item.specs.Gives as given
 use Rattle.ig_item.specs.Gives.{NodeKey, Taken, Gives}
@@ -28,14 +29,14 @@ once_alone x zero (suc j) y e f = cc
 once_alone x (suc i) j y e f = cc
 
 -- what a rule gives comes from a known item
-from_known : (core : List Nonterminal) (text : List ℕ) (known : Item → Type 0) (prev : Item) (taken : Taken) (x : Item) →
+from_known : (core : List Nonterminal) (text : Input) (known : Item → Type 0) (prev : Item) (taken : Taken) (x : Item) →
     Gives core text known prev taken x → known prev
 from_known core text known p v y (given.test prev names e x k before holds f) = k
 from_known core text known p v y (given.bind prev names name e u x k before has f) = k
 from_known core text known p v y (given.terminal prev names what label excluded j taken x k before matches free e f) = k
 from_known core text known p v y (given.return prev done label excluded key x k l calls completes free f) = k
 
-module _ (core : List Nonterminal) (text : List ℕ) (known : Item → Type 0) (none : (y : Item) → known y → ⊥) where
+module _ (core : List Nonterminal) (text : Input) (known : Item → Type 0) (none : (y : Item) → known y → ⊥) where
   -- from no item the first root item follows alone
   root_alone : (x : Item) → Follows core text known x → x ≡ first root_instance 1
   root_alone x (items.root y e) = e
@@ -45,7 +46,7 @@ module _ (core : List Nonterminal) (text : List ℕ) (known : Item → Type 0) (
   root_alone x (items.call y callee label excluded nonterminal a alternative z k calls at e) = absurd (none y k)
   root_alone x (items.return y done label excluded z k l calls complete free e) = absurd (none y k)
 
-module _ (core : List Nonterminal) (text : List ℕ) (waiting : List Ticket)
+module _ (core : List Nonterminal) (text : Input) (waiting : List Ticket)
     (exact : (u : Ticket) → Contains waiting u ↔ (u ≡ ticket_of (first root_instance 1) 0)) (law : ReachableIsClosed) where
   abbrev root_item : Item
   root_item = first root_instance 1

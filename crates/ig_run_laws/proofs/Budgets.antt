@@ -1,5 +1,6 @@
 -- When a run exceeds its budget, and what is found at its end.
 use Rattle.std.proofs.Common.{◌≡◌, ◌⊎◌, ⊎_elim, ℕ, ◌<◌, List, [], length, Contains, subst, arith}
+use Rattle.ig_text.specs.Input.{Input}
 use Rattle.ig_text.proofs.Lists.{at_from_contains, none_in_nil}
 use Rattle.ig_item.specs.Induction.{follows_more, kept}
 use Rattle.ig_item.specs.Items.{Item, Follows, MoreThan}
@@ -15,7 +16,7 @@ use Rattle.ig_run_laws.proofs.Events as events
 use Rattle.ig_run_laws.proofs.Fewer.{at_most}
 use Rattle.ig_run_laws.proofs.Grown.{extends_cases}
 
-module _ (law : ReachableIsClosed) (core : List Nonterminal) (text : List ℕ) (a : Finding) (more : List Item) (nodes : List Node)
+module _ (law : ReachableIsClosed) (core : List Nonterminal) (text : Input) (a : Finding) (more : List Item) (nodes : List Node)
     (rest : List Ticket) (t : Ticket) (it : Item) (budget : ℕ) (whole : IsWhole core text a nodes) (w : Takes a rest t it)
     (f : Finds (AfterBy core text a.items nodes it t.number) a.items more) (over : budget < length more) where
   all_follow : (x : Item) → Contains more x → Follows core text (IsTaken a.items rest) x

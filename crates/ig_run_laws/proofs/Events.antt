@@ -1,6 +1,7 @@
 -- Behind an event exactly those items are found which follow from the taken ones.
 use Rattle.std.proofs.Common.{◌≡◌, ◌⊎◌, ⊎_elim, inl, inr, ℕ, ◌<◌, ◌≤◌, List, Some, length, Contains, refl, arith, slice_get}
 use Rattle.std.proofs.lemmas.Option.{slice_get_within}
+use Rattle.ig_text.specs.Input.{Input}
 use Rattle.ig_text.proofs.Lists.{at_from_contains, contains_from_at, get_within}
 use Rattle.ig_item.specs.Induction.{follows_more}
 use Rattle.ig_item.specs.Items.{Item, Follows, Reachable}
@@ -21,7 +22,7 @@ use Rattle.ig_run_laws.proofs.Grown.{below_or, extends_at, extends_in, front_at}
 use Rattle.ig_run_laws.proofs.Known.{IsKnownToo}
 use Rattle.ig_run_laws.proofs.Taking.{taken_found, too}
 
-module _ (core : List Nonterminal) (text : List ℕ) (a : Finding) (nodes : List Node) (rest : List Ticket) (t : Ticket) (it : Item)
+module _ (core : List Nonterminal) (text : Input) (a : Finding) (nodes : List Node) (rest : List Ticket) (t : Ticket) (it : Item)
     (whole : IsWhole core text a nodes) (w : Takes a rest t it) where
   abbrev known : Item → Type 0
   known = IsTaken a.items rest

@@ -1,6 +1,7 @@
 -- Up to the first call of an alternative an instance has one item at a dot; so what is behind that call comes once.
 use Rattle.std.proofs.Common.{◌≡◌, ℕ, zero, suc, ◌≤◌, List, [], ◌∷◌, Option, Some, option_map, option_and_then, Contains, refl, sym, ap, ◌∙◌, subst, arith, slice_get}
 use Rattle.std.proofs.lemmas.Option.{same_Some}
+use Rattle.ig_text.specs.Input.{Input}
 use Rattle.ig_text.specs.Pattern.{Matches}
 use Rattle.ig_text.specs.declared.pattern.Pattern.{Pattern}
 use Rattle.ig_text.proofs.Lists.{contains_from_at}
@@ -36,7 +37,7 @@ steps_in core n a m u h =
     ap (option_map (λ (alternative : CoreAlt). alternative.steps)) h.has
 
 -- y is behind p over a step that calls nothing
-data IsAlone (core : List Nonterminal) (text : List ℕ) (p y : Item) : Type 0 where
+data IsAlone (core : List Nonterminal) (text : Input) (p y : Item) : Type 0 where
   test : (names : List (List ℕ)) (e : Expression) → StandsBefore core p names (Test e) → y ≡ past p [] p.position → IsAlone core text p y
   bind : (names : List (List ℕ)) (name : List ℕ) (e : Expression) (v : Value) → StandsBefore core p names (Bind name e) →
       HasValue text p names e v → y ≡ past p (v ∷ []) p.position → IsAlone core text p y
@@ -58,7 +59,7 @@ past_of p y bound j e =
       dot = ap (λ (z : Item). z.dot) e;
     }
 
-module _ (core : List Nonterminal) (text : List ℕ) where
+module _ (core : List Nonterminal) (text : Input) where
   alone_past : (p y : Item) → IsAlone core text p y → IsPastOf p y
   alone_past p y (test names e b f) = past_of p y [] p.position f
   alone_past p y (bind names name e v b has f) = past_of p y (v ∷ []) p.position f

@@ -1,5 +1,6 @@
 -- What follows from an item by the form of its step.
 use Rattle.std.proofs.Common.{◌≡◌, inl, inr, ℕ, List, [], ◌∷◌, Option, sym, ap, ◌∙◌, subst, true}
+use Rattle.ig_text.specs.Input.{Input}
 use Rattle.ig_text.specs.Pattern.{Matches}
 use Rattle.ig_text.specs.declared.pattern.Pattern.{Pattern}
 use Rattle.ig_expr.specs.Expression.{Expression}
@@ -18,7 +19,7 @@ use Rattle.ig_run_laws.specs.Rules.{IsCaller, IsReturn, IsFirstOf}
 use Rattle.ig_run_laws.specs.Stacks.{Node, HasPop}
 use Rattle.ig_run_laws.proofs.Steps.{one_step, not_both, visible_one, calls_one, ends_call_nothing}
 
-module _ (core : List Nonterminal) (text : List ℕ) (found : List Item) (nodes : List Node) (it : Item) (k : ℕ) (way : Way) (x : Item) where
+module _ (core : List Nonterminal) (text : Input) (found : List Item) (nodes : List Node) (it : Item) (k : ℕ) (way : Way) (x : Item) where
   -- a caller stands before a call
   clash : (names others : List (List ℕ)) (s t : Step) → StandsBefore core it names s → StandsBefore core it others t → s ≡ t
   clash names others s t p q = one_step core text it names others s t p q
@@ -167,7 +168,7 @@ ends_meet_edges core text found nodes it k complete way x = (
   end_back core text found nodes it k way x complete,
 )
 
-module _ (core : List Nonterminal) (text : List ℕ) (y : Item) (names : List (List ℕ)) (n : ℕ) (arguments : List Expression)
+module _ (core : List Nonterminal) (text : Input) (y : Item) (names : List (List ℕ)) (n : ℕ) (arguments : List Expression)
     (label : Option (List ℕ)) (excluded : List Pattern) (callee : Instance)
     (before : StandsBefore core y names (Call n arguments label excluded)) (c : IsCaller core text y callee) (end : ℕ) (x : Item) where
   return_forth : IsReturn core text y callee end x →

@@ -1,6 +1,7 @@
 -- Which items are new when they follow, and in which way items came about that are there.
 use Rattle.std.proofs.Common.{◌≡◌, ◌⊎◌, ⊎_elim, inl, inr, ℕ, zero, suc, List, [], ◌∷◌, ◌++◌, Some, None, Option, length, Contains, refl, sym, ap, ◌∙◌, subst, arith, slice_get, length-append}
 use Rattle.std.proofs.lemmas.Option.{same_Some, slice_get_within}
+use Rattle.ig_text.specs.Input.{Input}
 use Rattle.ig_text.specs.Pattern.{Matches}
 use Rattle.ig_text.specs.declared.pattern.Pattern.{Pattern}
 use Rattle.ig_text.proofs.Lists.{at_from_contains, get_within}
@@ -93,7 +94,7 @@ not_first x it i n bound j e f =
     let d : 0 ≡ suc it.dot = ap (λ (z : Item). z.dot) (sym e ∙ f) in omega (arith, d)
 
 -- an item behind a step that calls nothing follows from the item before it alone
-module _ (core : List Nonterminal) (text : List ℕ) (known : Item → Type 0) (it : Item) (new : known it → ⊥) (x : Item) where
+module _ (core : List Nonterminal) (text : Input) (known : Item → Type 0) (it : Item) (new : known it → ⊥) (x : Item) where
   module _ (names : List (List ℕ)) (s : Step) (other : List Value) (k : ℕ) (before : StandsBefore core it names s) (is : x ≡ past it other k) where
     pair : (y : Item) (bound : List Value) (j : ℕ) → x ≡ past y bound j → AreBefore x y it bound other j k
     pair y bound j e = record { of_y = e; of_it = is }
@@ -167,7 +168,7 @@ module _ (core : List Nonterminal) (text : List ℕ) (known : Item → Type 0) (
         (Call done.instance.nonterminal calls.arguments l ex) f calls.before in cc
 
 -- what follows over such a step isn't found before the item is taken
-module _ (core : List Nonterminal) (text : List ℕ) (a : Finding) (nodes : List Node) (rest : List Ticket) (t : Ticket) (it x : Item)
+module _ (core : List Nonterminal) (text : Input) (a : Finding) (nodes : List Node) (rest : List Ticket) (t : Ticket) (it x : Item)
     (whole : IsWhole core text a nodes) (w : Takes a rest t it) (c : Contains a.items x) where
   abbrev known : Item → Type 0
   known = IsTaken a.items a.waiting
@@ -201,7 +202,7 @@ firsts_are_new core text a nodes callee x whole none f c =
     none (subst (Contains (keys_of nodes)) (ap (λ (z : Item). z.instance) f.is) (whole.have_nodes x c))
 
 -- each item that is found has a way
-module _ (core : List Nonterminal) (text : List ℕ) (a : Finding) (nodes : List Node) (whole : IsWhole core text a nodes) where
+module _ (core : List Nonterminal) (text : Input) (a : Finding) (nodes : List Node) (whole : IsWhole core text a nodes) where
   way_at : (n : ℕ) (x : Item) → slice_get a.items n ≡ Some x → (way : Way) × (slice_get a.lists.firsts n ≡ Some way)
   way_at n x at =
       let l = slice_get_within a.items n x at in let e = whole.trail.number in get_within a.lists.firsts n (omega (arith, l, e))
@@ -242,7 +243,7 @@ module _ (core : List Nonterminal) (root : HasRoot core) where
       let same : nonterminal ≡ root.nonterminal = same_Some nonterminal root.nonterminal (sym at.there ∙ root.first) in
       only_first nonterminal.alternatives root.alternative alternative n (ap (λ (z : Nonterminal). z.alternatives) same ∙ root.single) at.has
 
-module _ (core : List Nonterminal) (text : List ℕ) (a : Finding) (nodes : List Node) (callee : Instance) (x : Item) (root : HasRoot core)
+module _ (core : List Nonterminal) (text : Input) (a : Finding) (nodes : List Node) (callee : Instance) (x : Item) (root : HasRoot core)
     (whole : IsWhole core text a nodes) (f : IsFirstOf core callee x) where
   abbrev taken : Item → Type 0
   taken = IsTaken a.items a.waiting

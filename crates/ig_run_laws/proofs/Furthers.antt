@@ -2,6 +2,7 @@
 use Rattle.std.proofs.Common.{◌≡◌, ◌⊎◌, ⊎_elim, ℕ, List, [], ◌∷◌, Some, Contains, refl, sym, ap, ◌∙◌, subst, slice_get}
 use Rattle.std.proofs.lemmas.Option.{same_Some}
 use Rattle.std.proofs.lemmas.List.Elements.{Contains-append_left, Contains-append_right}
+use Rattle.ig_text.specs.Input.{Input}
 use Rattle.ig_text.proofs.Lists.{in_pushed, it_is_in}
 use Rattle.ig_item.specs.Gives as given
 use Rattle.ig_item.specs.Gives.{Taken, Gives}
@@ -29,7 +30,7 @@ use Rattle.ig_run_laws.proofs.Meeting.{end_more, one_pop, stay}
 use Rattle.ig_run_laws.proofs.Steps.{not_both, ends_call_nothing}
 use Rattle.ig_run_laws.proofs.Trails.{same_end, way_on}
 
-module _ (core : List Nonterminal) (text : List ℕ) (a : Finding) (nodes : List Node) (rest : List Ticket) (t : Ticket) (it : Item) (done : ℕ)
+module _ (core : List Nonterminal) (text : Input) (a : Finding) (nodes : List Node) (rest : List Ticket) (t : Ticket) (it : Item) (done : ℕ)
     (whole : IsWhole core text a nodes) (w : Takes a rest t it) (complete : IsComplete core it)
     (has : HasPop nodes it.instance (pop it.position done)) where
   abbrev known : Item → Type 0

@@ -4,6 +4,7 @@ use Rattle.std.proofs.lemmas.List.{length-map}
 use Rattle.std.proofs.lemmas.Option.{same_Some}
 use Rattle.std.proofs.lemmas.Bool.Decides.{nat_tests}
 use Rattle.std.specs.Prelude.{nat_eq, if◌then◌else◌}
+use Rattle.ig_text.specs.Input.{Input}
 use Rattle.ig_text.proofs.Lists.{mapped_at, mapped_in, unmapped_at, unmapped_in}
 use Rattle.ig_item.specs.Gives.{NodeKey, Taken, Completes}
 use Rattle.ig_item.specs.Induction.{ways_same, ends_same}
@@ -35,7 +36,7 @@ chosen_same a b x y e = let h : nat_eq a b ≡ true = grind (arith, nat_tests) i
 chosen_other : (a b x y : ℕ) → (a ≡ b → ⊥) → (if nat_eq a b then x else y) ≡ y
 chosen_other a b x y n = let h : nat_eq a b ≡ false = grind (arith, nat_tests) in ap (λ (t : Bool). (if t then x else y)) h
 
-module _ (core : List Nonterminal) (text : List ℕ) (known : Item → Type 0) (items : List Item) (nodes : List Node) (lists : WayLists)
+module _ (core : List Nonterminal) (text : Input) (known : Item → Type 0) (items : List Item) (nodes : List Node) (lists : WayLists)
     (s : AreStacks core text known items nodes) (h : HaveNodes items nodes) (are_found : (y : Item) → known y → Contains items y)
     (trail : HasTrail core text known items nodes lists) (least : ℕ → ℕ) (gives : GivesLeast lists.ends least) where
   -- a name is the number of a complete item of its node
@@ -201,7 +202,7 @@ module _ (core : List Nonterminal) (text : List ℕ) (known : Item → Type 0) (
         );
       }
 
-module _ (core : List Nonterminal) (text : List ℕ) (a : Finding) (nodes : List Node) (least : ℕ → ℕ) (whole : IsWhole core text a nodes)
+module _ (core : List Nonterminal) (text : Input) (a : Finding) (nodes : List Node) (least : ℕ → ℕ) (whole : IsWhole core text a nodes)
     (gives : GivesLeast a.lists.ends least) (all : (x : Item) → Reachable core text x → IsTaken a.items a.waiting x) where
   were_found : (y : Item) → IsTaken a.items a.waiting y → Contains a.items y
   were_found = taken_found a.items a.waiting

@@ -1,6 +1,7 @@
 -- Callers and callees meet in the stacks.
 use Rattle.std.proofs.Common.{◌≡◌, ◌⊎◌, ⊎_elim, inl, inr, ℕ, List, [], ◌∷◌, Some, Contains, refl, sym, ap, ◌∙◌, subst, slice_get}
 use Rattle.std.proofs.lemmas.Option.{same_Some}
+use Rattle.ig_text.specs.Input.{Input}
 use Rattle.ig_text.proofs.Lists.{at_from_contains, mapped_at}
 use Rattle.ig_expr.specs.declared.value.Value.{Value}
 use Rattle.ig_item.specs.Gives.{NodeKey}
@@ -16,7 +17,7 @@ use Rattle.ig_run_laws.proofs.After.{node_of}
 use Rattle.ig_run_laws.proofs.Known.{IsKnownToo}
 use Rattle.ig_run_laws.proofs.Steps.{ends_call_nothing}
 
-caller_at : (core : List Nonterminal) (text : List ℕ) (it : Item) (a b : Instance) → a ≡ b → IsCaller core text it a → IsCaller core text it b
+caller_at : (core : List Nonterminal) (text : Input) (it : Item) (a b : Instance) → a ≡ b → IsCaller core text it a → IsCaller core text it b
 caller_at core text it a b e c = subst (IsCaller core text it) e c
 
 -- no key has two nodes
@@ -32,7 +33,7 @@ same_pop : (p q : Pop) → p.end ≡ q.end → p.done ≡ q.done → p ≡ q
 same_pop p q e d = λ i. record { end = e i; done = d i }
 
 -- an instance ended once at one position
-pub one_pop : (core : List Nonterminal) (text : List ℕ) (known : Item → Type 0) (found : List Item) (nodes : List Node) →
+pub one_pop : (core : List Nonterminal) (text : Input) (known : Item → Type 0) (found : List Item) (nodes : List Node) →
     AreStacks core text known found nodes → (i : Instance) (p q : Pop) → HasPop nodes i p → HasPop nodes i q → p.end ≡ q.end → p ≡ q
 one_pop core text known found nodes s i p q a b e =
     let n = one_node nodes b.0 a.0 s.once b.1 a.1 (b.2 ∙ sym a.2) in
@@ -46,7 +47,7 @@ end_more core known wider found more i j d still keeps same e =
     subst (λ (z : NodeKey). IsEnd core wider more z d) same
     (record { item = e.item; there = keeps d e.item e.there; is_known = still e.item e.is_known; completes = e.completes })
 
-module _ (core : List Nonterminal) (text : List ℕ) (known wider : Item → Type 0) (found : List Item) (it : Item) (k : ℕ)
+module _ (core : List Nonterminal) (text : Input) (known wider : Item → Type 0) (found : List Item) (it : Item) (k : ℕ)
     (nodes after : List Node) (s : AreStacks core text known found nodes) (h : HaveNodes found nodes)
     (too : IsKnownToo known wider found it k) (m : Meets core text it k nodes after)
     (first_there : IsComplete core it → IsFirstThere nodes it) where
@@ -169,7 +170,7 @@ module _ (core : List Nonterminal) (text : List ℕ) (known wider : Item → Typ
       }
 
 -- one more item is known that changes nothing: it is complete where its node has a pop
-module _ (core : List Nonterminal) (text : List ℕ) (known wider : Item → Type 0) (found : List Item) (it : Item) (k done : ℕ)
+module _ (core : List Nonterminal) (text : Input) (known wider : Item → Type 0) (found : List Item) (it : Item) (k done : ℕ)
     (nodes : List Node) (s : AreStacks core text known found nodes) (h : HaveNodes found nodes)
     (too : IsKnownToo known wider found it k) (complete : IsComplete core it) (has : HasPop nodes it.instance (pop it.position done)) where
   silent : (y : Item) (i : Instance) → wider y → IsCaller core text y i → known y
@@ -220,7 +221,7 @@ module _ (core : List Nonterminal) (text : List ℕ) (known wider : Item → Typ
           (too.or e.item e.is_known)
 
 -- stacks speak of the known items alone
-module _ (core : List Nonterminal) (text : List ℕ) (known same : Item → Type 0) (found longer : List Item) (nodes : List Node)
+module _ (core : List Nonterminal) (text : Input) (known same : Item → Type 0) (found longer : List Item) (nodes : List Node)
     (s : AreStacks core text known found nodes) (forth : (y : Item) → known y → same y) (back : (y : Item) → same y → known y)
     (are_found : (y : Item) → known y → Contains found y)
     (keeps : (k : ℕ) (y : Item) → slice_get found k ≡ Some y → slice_get longer k ≡ Some y) (once : NoneTwice longer) where
@@ -260,7 +261,7 @@ module _ (core : List Nonterminal) (text : List ℕ) (known same : Item → Type
       }
 
 -- the instance of what follows from known items has a node
-module _ (core : List Nonterminal) (text : List ℕ) (known : Item → Type 0) (found : List Item) (nodes : List Node)
+module _ (core : List Nonterminal) (text : Input) (known : Item → Type 0) (found : List Item) (nodes : List Node)
     (s : AreStacks core text known found nodes) (h : (y : Item) → known y → Contains (keys_of nodes) y.instance) where
   behind : (x y : Item) → known y → (bound : List Value) (j : ℕ) → x ≡ past y bound j → Contains (keys_of nodes) x.instance
   behind x y k bound j e = subst (Contains (keys_of nodes)) (ap (λ (z : Item). z.instance) (sym e)) (h y k)

@@ -1,6 +1,7 @@
 -- An item stands before one step or is complete, and calls at most one instance.
 use Rattle.std.proofs.Common.{◌≡◌, ℕ, List, Some, Option, length, map, sym, ap, ◌∙◌, subst, arith, slice_get}
 use Rattle.std.proofs.lemmas.Option.{same_Some, slice_get_within}
+use Rattle.ig_text.specs.Input.{Input}
 use Rattle.ig_text.specs.declared.pattern.Pattern.{Pattern}
 use Rattle.ig_text.proofs.Equal.{same_listed}
 use Rattle.ig_expr.specs.Evaluation.{value_of}
@@ -13,7 +14,7 @@ use Rattle.ig_item.specs.declared.core_grammar.CoreAlt.{CoreAlt}
 use Rattle.ig_item.specs.declared.items.Instance.{Instance}
 use Rattle.ig_run_laws.specs.Rules.{IsCaller}
 
-module _ (core : List Nonterminal) (text : List ℕ) where
+module _ (core : List Nonterminal) (text : Input) where
   same_alternative : (n a : ℕ) (m k : Nonterminal) (u v : CoreAlt) → IsAlternative core n a m u → IsAlternative core n a k v → u ≡ v
   same_alternative n a m k u v p q =
       let e : m ≡ k = same_Some m k (sym p.there ∙ q.there) in

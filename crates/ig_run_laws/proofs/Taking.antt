@@ -1,6 +1,7 @@
 -- A ticket is taken: its item is known from then on.
 use Rattle.std.proofs.Common.{◌≡◌, ◌⊎◌, ⊎_elim, inl, inr, ℕ, List, Contains, sym, ap, ◌∙◌, subst, slice_get}
 use Rattle.std.proofs.lemmas.Option.{same_Some}
+use Rattle.ig_text.specs.Input.{Input}
 use Rattle.ig_text.proofs.Lists.{contains_from_at}
 use Rattle.ig_item.specs.Items.{Item}
 use Rattle.ig_item.specs.declared.core_grammar.Nonterminal.{Nonterminal}
@@ -14,7 +15,7 @@ use Rattle.ig_run_laws.proofs.Known.{IsKnownToo}
 pub taken_found : (found : List Item) (waiting : List Ticket) (y : Item) → IsTaken found waiting y → Contains found y
 taken_found found waiting y t = contains_from_at found t.number y t.there
 
-module _ (core : List Nonterminal) (text : List ℕ) (a : Finding) (rest : List Ticket) (t : Ticket) (it : Item)
+module _ (core : List Nonterminal) (text : Input) (a : Finding) (rest : List Ticket) (t : Ticket) (it : Item)
     (r : IsRun core text a.items a.waiting) (w : Takes a rest t it) where
   here : t.position ≡ it.position
   here =

@@ -1,6 +1,7 @@
 -- The ways to items, as one more item is taken.
 use Rattle.std.proofs.Common.{◌≡◌, ◌⊎◌, ⊎_elim, inl, inr, ℕ, List, [], ◌∷◌, Some, Option, Contains, refl, sym, ap, ◌∙◌, subst, arith, slice_get, true}
 use Rattle.std.proofs.lemmas.Option.{same_Some}
+use Rattle.ig_text.specs.Input.{Input}
 use Rattle.ig_text.specs.Pattern.{Matches}
 use Rattle.ig_text.specs.declared.pattern.Pattern.{Pattern}
 use Rattle.ig_text.proofs.Lists.{at_from_contains, contains_from_at, mapped_in}
@@ -37,7 +38,7 @@ use Rattle.ig_run_laws.proofs.Meeting.{end_more}
 use Rattle.ig_run_laws.proofs.Steps.{ends_call_nothing}
 
 -- what a rule gives follows
-pub gives_follows : (core : List Nonterminal) (text : List ℕ) (known : Item → Type 0) (prev : Item) (taken : Taken) (x : Item) →
+pub gives_follows : (core : List Nonterminal) (text : Input) (known : Item → Type 0) (prev : Item) (taken : Taken) (x : Item) →
     Gives core text known prev taken x → Follows core text known x
 gives_follows core text known p w y (given.test prev names e x k before holds f) = items.test prev names e x k before holds f
 gives_follows core text known p w y (given.bind prev names name e v x k before has f) = items.bind prev names name e v x k before has f
@@ -73,14 +74,14 @@ module _ (items longer : List Item) (nodes after : List Node)
   says_on (trails.leaf k prev taken at is) = trails.leaf k prev taken (keeps k prev at) is
   says_on (trails.node k d prev key at name) = trails.node k d prev key (keeps k prev at) (names key d name)
 
-  pub way_on : (core : List Nonterminal) (text : List ℕ) (known wider : Item → Type 0) → ((y : Item) → known y → wider y) →
+  pub way_on : (core : List Nonterminal) (text : Input) (known wider : Item → Type 0) → ((y : Item) → known y → wider y) →
       (x : Item) (way : Way) → IsWayNamed core text known items nodes x way → IsWayNamed core text wider longer after x way
   way_on core text known wider still x way (trails.begin e) = trails.begin e
   way_on core text known wider still x way (trails.comes w prev taken says gives) =
       trails.comes w prev taken (says_on says) (gives_more core text still gives)
 
 -- an event: all that follows is recorded
-module _ (core : List Nonterminal) (text : List ℕ) (a b : Finding) (nodes after : List Node) (rest : List Ticket) (t : Ticket) (it : Item)
+module _ (core : List Nonterminal) (text : Input) (a b : Finding) (nodes after : List Node) (rest : List Ticket) (t : Ticket) (it : Item)
     (whole : IsWhole core text a nodes) (w : Takes a rest t it) (m : Meets core text it t.number nodes after)
     (first_there : IsComplete core it → IsFirstThere nodes it)
     (d : Records (AfterBy core text a.items nodes it t.number) (with_waiting a rest) b) where

@@ -1,5 +1,6 @@
 -- An event keeps the run, its stacks and its ways.
-use Rattle.std.proofs.Common.{inl, ℕ, List, Contains}
+use Rattle.std.proofs.Common.{inl, List, Contains}
+use Rattle.ig_text.specs.Input.{Input}
 use Rattle.ig_item.specs.Induction.{follows_more}
 use Rattle.ig_item.specs.Items.{Item, IsComplete}
 use Rattle.ig_item.specs.Laws.{ReachableIsClosed}
@@ -16,7 +17,7 @@ use Rattle.ig_run_laws.proofs.Meeting.{met, alike, follower}
 use Rattle.ig_run_laws.proofs.Taking.{taken_found}
 use Rattle.ig_run_laws.proofs.Trails as trails
 
-module _ (law : ReachableIsClosed) (core : List Nonterminal) (text : List ℕ) (a b : Finding) (nodes after : List Node) (rest : List Ticket)
+module _ (law : ReachableIsClosed) (core : List Nonterminal) (text : Input) (a b : Finding) (nodes after : List Node) (rest : List Ticket)
     (t : Ticket) (it : Item) (whole : IsWhole core text a nodes) (w : Takes a rest t it) (m : Meets core text it t.number nodes after)
     (first_there : IsComplete core it → IsFirstThere nodes it)
     (d : Records (AfterBy core text a.items nodes it t.number) (with_waiting a rest) b) where

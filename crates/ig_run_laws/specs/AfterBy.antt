@@ -1,5 +1,6 @@
 -- What follows from an item that is taken, and in which way it does.
 use Rattle.std.specs.Prelude.{◌≡◌, ◌⊎◌, ℕ, List, [], ◌∷◌, Option, Some, slice_get, true}
+use Rattle.ig_text.specs.Input.{Input}
 use Rattle.ig_text.specs.Pattern.{Matches}
 use Rattle.ig_text.specs.declared.pattern.Pattern.{Pattern}
 use Rattle.ig_expr.specs.Expression.{Expression}
@@ -16,7 +17,7 @@ use Rattle.ig_run_laws.specs.Stacks.{Node, Pop, HasEdge, HasPop}
 
 -- x follows from the item of number k, which is taken now, in that way: alone, or with an item that was taken before and
 -- that stands in the nodes as they were then. A way over a call names the node by the number in its pop
-pub data AfterBy (core : List Nonterminal) (text : List ℕ) (found : List Item) (nodes : List Node) (it : Item) (k : ℕ)
+pub data AfterBy (core : List Nonterminal) (text : Input) (found : List Item) (nodes : List Node) (it : Item) (k : ℕ)
     (way : Way) (x : Item) : Type 0 where
   test : (names : List (List ℕ)) (e : Expression) → StandsBefore core it names (Test e) → HasValue text it names e (Bool true) →
       way ≡ Pass k → x ≡ past it [] it.position → AfterBy core text found nodes it k way x
@@ -37,13 +38,13 @@ pub data AfterBy (core : List Nonterminal) (text : List ℕ) (found : List Item)
       IsReturn core text caller it.instance it.position x → way ≡ Tree e k → AfterBy core text found nodes it k way x
 
 -- what `AfterBy` says of an item that calls the instance: its first items, and a return for each pop
-abbrev pub AfterCall : List Nonterminal → List ℕ → List Node → Item → ℕ → Instance → Way → Item → Type 0
+abbrev pub AfterCall : List Nonterminal → Input → List Node → Item → ℕ → Instance → Way → Item → Type 0
 AfterCall core text nodes it k callee way x =
     ((way ≡ Begin) × IsFirstOf core callee x) ⊎
     ((p : Pop) × HasPop nodes callee p × (way ≡ Tree k p.done) × IsReturn core text it callee p.end x)
 
 -- what it says of a complete item: a return for each edge
-abbrev pub AfterEnd : List Nonterminal → List ℕ → List Item → List Node → Item → ℕ → Way → Item → Type 0
+abbrev pub AfterEnd : List Nonterminal → Input → List Item → List Node → Item → ℕ → Way → Item → Type 0
 AfterEnd core text found nodes it k way x =
     (e : ℕ) × (caller : Item) × HasEdge nodes it.instance e × (slice_get found e ≡ Some caller) × (way ≡ Tree e k) ×
     IsReturn core text caller it.instance it.position x

@@ -1,5 +1,6 @@
 -- What follows from an item and those that were taken before it.
 use Rattle.std.specs.Prelude.{◌≡◌, ℕ, List, [], ◌∷◌, Option, true}
+use Rattle.ig_text.specs.Input.{Input}
 use Rattle.ig_text.specs.Pattern.{Matches}
 use Rattle.ig_text.specs.declared.pattern.Pattern.{Pattern}
 use Rattle.ig_expr.specs.Expression.{Expression}
@@ -13,7 +14,7 @@ use Rattle.ig_item.specs.declared.core_grammar.CoreAlt.{CoreAlt}
 use Rattle.ig_item.specs.declared.items.Instance.{Instance}
 
 -- x follows from `it`, alone or with a known item: one that is complete, where `it` calls; one that calls, where `it` is complete
-pub data After (core : List Nonterminal) (text : List ℕ) (known : Item → Type 0) (it x : Item) : Type 0 where
+pub data After (core : List Nonterminal) (text : Input) (known : Item → Type 0) (it x : Item) : Type 0 where
   test : (names : List (List ℕ)) (e : Expression) → StandsBefore core it names (Test e) → HasValue text it names e (Bool true) →
       x ≡ past it [] it.position → After core text known it x
   bind : (names : List (List ℕ)) (name : List ℕ) (e : Expression) (v : Value) → StandsBefore core it names (Bind name e) →
@@ -34,13 +35,13 @@ pub data After (core : List Nonterminal) (text : List ℕ) (known : Item → Typ
       x ≡ past caller (span_of label caller.position it.position) it.position → After core text known it x
 
 -- the item stands before a call of the instance, whose arguments have its values
-pub record IsCaller (core : List Nonterminal) (text : List ℕ) (it : Item) (callee : Instance) : Type 0 where
+pub record IsCaller (core : List Nonterminal) (text : Input) (it : Item) (callee : Instance) : Type 0 where
   pub label : Option (List ℕ)
   pub excluded : List Pattern
   pub calls : Calls core text it callee label excluded
 
 -- x is the item after the call of the instance before which `it` stands, where that ended at p
-pub record IsReturn (core : List Nonterminal) (text : List ℕ) (it : Item) (callee : Instance) (p : ℕ) (x : Item) : Type 0 where
+pub record IsReturn (core : List Nonterminal) (text : Input) (it : Item) (callee : Instance) (p : ℕ) (x : Item) : Type 0 where
   pub label : Option (List ℕ)
   pub excluded : List Pattern
   pub calls : Calls core text it callee label excluded

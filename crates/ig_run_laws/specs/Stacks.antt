@@ -1,5 +1,6 @@
 -- The stacks of a run: for each instance that was called, who waits for it and where it ended.
 use Rattle.std.specs.Prelude.{◌≡◌, ◌↔◌, ◌⊎◌, ℕ, List, [], map, Contains, Some, slice_get}
+use Rattle.ig_text.specs.Input.{Input}
 use Rattle.ig_item.specs.Gives.{NodeKey}
 use Rattle.ig_item.specs.Items.{Item, IsComplete, root_instance}
 use Rattle.ig_item.specs.Ways.{IsEnd}
@@ -42,13 +43,13 @@ abbrev pub IsName : List Node → NodeKey → ℕ → Type 0
 IsName nodes key d = HasPop nodes key.instance (pop key.end d)
 
 -- a known item calls the instance
-pub record IsCalled (core : List Nonterminal) (text : List ℕ) (known : Item → Type 0) (i : Instance) : Type 0 where
+pub record IsCalled (core : List Nonterminal) (text : Input) (known : Item → Type 0) (i : Instance) : Type 0 where
   pub item : Item
   pub is_known : known item
   pub calls : IsCaller core text item i
 
 -- the found item of that number is known, and calls the instance
-pub record Waits (core : List Nonterminal) (text : List ℕ) (known : Item → Type 0) (found : List Item) (i : Instance) (k : ℕ) :
+pub record Waits (core : List Nonterminal) (text : Input) (known : Item → Type 0) (found : List Item) (i : Instance) (k : ℕ) :
     Type 0 where
   pub item : Item
   pub there : slice_get found k ≡ Some item
@@ -65,7 +66,7 @@ pub record HasEnd (core : List Nonterminal) (known : Item → Type 0) (i : Insta
 
 -- there is a node for the root at 0 and for each instance that a known item calls, and no other; its edges are the known
 -- items that call it, its pops the positions of the known complete items of it, each with the number of one of these
-pub record AreStacks (core : List Nonterminal) (text : List ℕ) (known : Item → Type 0) (found : List Item)
+pub record AreStacks (core : List Nonterminal) (text : Input) (known : Item → Type 0) (found : List Item)
     (nodes : List Node) : Type 0 where
   pub once : NoneTwice (keys_of nodes)
   pub keys : (i : Instance) → Contains (keys_of nodes) i ↔ ((i ≡ root_instance) ⊎ IsCalled core text known i)
@@ -94,7 +95,7 @@ IsFirstThere nodes it = (d : ℕ) → HasPop nodes it.instance (pop it.position 
 
 -- what becomes of the nodes when the item of number k is taken: the instance that it calls has a node, in which it waits; and
 -- where it is complete, its instance ended at its position
-pub record Meets (core : List Nonterminal) (text : List ℕ) (it : Item) (k : ℕ) (nodes after : List Node) : Type 0 where
+pub record Meets (core : List Nonterminal) (text : Input) (it : Item) (k : ℕ) (nodes after : List Node) : Type 0 where
   pub once : NoneTwice (keys_of after)
   pub keys : (i : Instance) → Contains (keys_of after) i ↔ (Contains (keys_of nodes) i ⊎ IsCaller core text it i)
   pub edges : (node : Node) → Contains after node → (e : ℕ) →

@@ -1,5 +1,6 @@
 -- How the items of a run came about, while each node goes by the number in its pop.
 use Rattle.std.specs.Prelude.{◌≡◌, ◌≢◌, ◌↔◌, ℕ, ◌<◌, List, length, Contains, Some, slice_get}
+use Rattle.ig_text.specs.Input.{Input}
 use Rattle.ig_item.specs.Items.{Item}
 use Rattle.ig_item.specs.Gives as given
 use Rattle.ig_item.specs.Gives.{NodeKey, Taken, Gives, nothing, tree}
@@ -20,7 +21,7 @@ pub data SaysNamed (items : List Item) (nodes : List Node) (position : ℕ) : Wa
       SaysNamed items nodes position (Tree k d) prev (tree key)
 
 -- the item can come about in that way: it begins an alternative, or a rule gives it so from known items
-pub data IsWayNamed (core : List Nonterminal) (text : List ℕ) (known : Item → Type 0) (items : List Item) (nodes : List Node)
+pub data IsWayNamed (core : List Nonterminal) (text : Input) (known : Item → Type 0) (items : List Item) (nodes : List Node)
     (x : Item) : Way → Type 0 where
   begin : x.dot ≡ 0 → IsWayNamed core text known items nodes x Begin
   comes : (way : Way) (prev : Item) (taken : Taken) → SaysNamed items nodes x.position way prev taken →
@@ -42,7 +43,7 @@ pub record IsFurtherNamed (core : List Nonterminal) (known : Item → Type 0) (i
   pub other : end.item ≢ end.first
 
 -- each item came about in exactly the ways that the rules give from known items, and the further complete items are listed
-pub record HasTrail (core : List Nonterminal) (text : List ℕ) (known : Item → Type 0) (items : List Item) (nodes : List Node)
+pub record HasTrail (core : List Nonterminal) (text : Input) (known : Item → Type 0) (items : List Item) (nodes : List Node)
     (lists : WayLists) : Type 0 where
   pub number : length lists.firsts ≡ length items
   pub there : (more : FurtherWay) → Contains lists.further more → more.item < length items

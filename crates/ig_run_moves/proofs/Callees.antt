@@ -2,6 +2,7 @@
 use Rattle.std.proofs.Common.{◌≡◌, ℕ, ◌<◌, List, [], Some, length, map, refl, sym, ap, ◌∙◌, subst}
 use Rattle.std.specs.Prelude.{slice_index_or, None}
 use Rattle.std.proofs.lemmas.Option.{slice_get_within, get_or_from_slice_get, same_Some}
+use Rattle.ig_text.specs.Input.{Input}
 use Rattle.ig_text.proofs.Equal.{same_listed}
 use Rattle.ig_expr.specs.Expression.{Expression}
 use Rattle.ig_expr.specs.declared.value.Value.{Value}
@@ -20,7 +21,7 @@ use Rattle.ig_run_moves.proofs.Pasts.{never_some}
 abbrev key_of : ℕ → ℕ → stored.Item → InstanceKey
 key_of n env it = record { nonterminal = n; env = env; start = it.position }
 
-module _ (before after : List (List Value)) (it : stored.Item) (text : List ℕ) (names : List (List ℕ)) (n : ℕ) (arguments : List Expression)
+module _ (before after : List (List Value)) (it : stored.Item) (text : Input) (names : List (List ℕ)) (n : ℕ) (arguments : List Expression)
     (values : List Value) (same : values ≡ slice_index_or before it.env []) where
   -- an argument has no value
   pub callee_none : ((vs : List Value) → AreValuesOf text names values it.position arguments vs → ⊥) →

@@ -2,6 +2,7 @@
 use Rattle.std.proofs.Common.{◌≡◌, ℕ, List, length, map, sym, ap, ◌∙◌, subst, arith, true}
 use Rattle.std.specs.Prelude.{Option}
 use Rattle.std.proofs.lemmas.Option.{slice_get_within, same_Some}
+use Rattle.ig_text.specs.Input.{Input}
 use Rattle.ig_text.specs.Pattern.{Matches}
 use Rattle.ig_text.specs.declared.pattern.Pattern.{Pattern}
 use Rattle.ig_text.proofs.Equal.{same_listed}
@@ -30,7 +31,7 @@ not_both core it names s p q =
     let lt = slice_get_within p.alternative.steps it.dot s p.next in
     let len = ap (λ (z : CoreAlt). length z.steps) e in let last = q.last in omega (arith, lt, len, last)
 
-module _ (law : StandsBeforeOne) (core : List Nonterminal) (text : List ℕ) (it : Item) where
+module _ (law : StandsBeforeOne) (core : List Nonterminal) (text : Input) (it : Item) where
   same_step : (names others : List (List ℕ)) (s t : Step) → StandsBefore core it names s → StandsBefore core it others t → s ≡ t
   same_step names others s t p q = (law core it names others s t p q).1
 

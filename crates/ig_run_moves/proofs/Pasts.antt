@@ -6,6 +6,7 @@ use Rattle.std.specs.Option.{option_to_list}
 use Rattle.std.proofs.lemmas.List.{append-nil}
 use Rattle.std.proofs.lemmas.List.Elements.{All-nil}
 use Rattle.std.proofs.lemmas.Option.{slice_get-get_or, slice_get_within, get_or_from_slice_get, same_Some}
+use Rattle.ig_text.specs.Input.{Input}
 use Rattle.ig_text.specs.Pattern.{Matches}
 use Rattle.ig_text.specs.declared.pattern.Pattern.{Pattern}
 use Rattle.ig_text.proofs.Booleans.{refuted}
@@ -101,7 +102,7 @@ module _ (before after : List (List Value)) (it : stored.Item) (bound : Option V
             (record { instance = p.instance; alternative = p.alternative; dot = p.dot });
       }
 
-  pub moves_call : (text : List ℕ) (label : Option (List ℕ)) (excluded : List Pattern) → option_to_list bound ≡ span_of label it.position end →
+  pub moves_call : (text : Input) (label : Option (List ℕ)) (excluded : List Pattern) → option_to_list bound ≡ span_of label it.position end →
       MatchesNone text excluded it.position end → Moves before after it (IsPastCall text label excluded end) (Some y)
   moves_call text label excluded spans free =
       moves_past (IsPastCall text label excluded end)
@@ -111,13 +112,13 @@ module _ (before after : List (List Value)) (it : stored.Item) (bound : Option V
       ))
 
 -- a match of an excluded pattern
-pub moves_excluded : (before after : List (List Value)) (it : stored.Item) (text : List ℕ) (label : Option (List ℕ)) (excluded : List Pattern)
+pub moves_excluded : (before after : List (List Value)) (it : stored.Item) (text : Input) (label : Option (List ℕ)) (excluded : List Pattern)
     (end : ℕ) → (MatchesNone text excluded it.position end → ⊥) → Moves before after it (IsPastCall text label excluded end) None
 moves_excluded before after it text label excluded end never =
     moves_none before after it (IsPastCall text label excluded end) (λ keys x h. never h.0)
 
 -- the same label and the same excluded patterns, by other names
-pub moves_named : (before after : List (List Value)) (it : stored.Item) (text : List ℕ) (label second : Option (List ℕ))
+pub moves_named : (before after : List (List Value)) (it : stored.Item) (text : Input) (label second : Option (List ℕ))
     (excluded others : List Pattern) (end : ℕ) (r : Result (Option stored.Item) AllocError) → label ≡ second → excluded ≡ others →
     IfOk r (Moves before after it (IsPastCall text label excluded end)) → IfOk r (Moves before after it (IsPastCall text second others end))
 moves_named before after it text label second excluded others end r l e h =
@@ -125,13 +126,13 @@ moves_named before after it text label second excluded others end r l e h =
     (subst (λ (z : Option (List ℕ)). IfOk r (Moves before after it (IsPastCall text z excluded end))) l h)
 
 -- a pattern that doesn't match
-pub moves_no_match : (before after : List (List Value)) (it : stored.Item) (text : List ℕ) (what : Pattern) (label : Option (List ℕ))
+pub moves_no_match : (before after : List (List Value)) (it : stored.Item) (text : Input) (what : Pattern) (label : Option (List ℕ))
     (excluded : List Pattern) → ((j : ℕ) → Matches text what it.position j → ⊥) → Moves before after it (IsBehind text what label excluded) None
 moves_no_match before after it text what label excluded never =
     moves_none before after it (IsBehind text what label excluded) (λ keys x h. never h.0 h.1)
 
 -- a terminal that matches is passed as a call that ended there
-pub moves_terminal : (before after : List (List Value)) (it : stored.Item) (text : List ℕ) (what : Pattern) (label : Option (List ℕ))
+pub moves_terminal : (before after : List (List Value)) (it : stored.Item) (text : Input) (what : Pattern) (label : Option (List ℕ))
     (excluded : List Pattern) (end : ℕ) (r : Option stored.Item) → Matches text what it.position end →
     Moves before after it (IsPastCall text label excluded end) r → Moves before after it (IsBehind text what label excluded) r
 moves_terminal before after it text what label excluded end r m =
@@ -145,7 +146,7 @@ moves_terminal before after it text what label excluded end r m =
     ))
 
 -- a test whose condition is true, in an environment that was lent as `values`
-pub moves_test : (before after : List (List Value)) (it y : stored.Item) (text : List ℕ) (names : List (List ℕ)) (e : Expression) (values : List Value)
+pub moves_test : (before after : List (List Value)) (it y : stored.Item) (text : Input) (names : List (List ℕ)) (e : Expression) (values : List Value)
     (b : Bool) → Extends before after → IsPast before after it None it.position y → values ≡ slice_index_or before it.env [] →
     IsTrue b ↔ (value_of text names values it.position e ≡ Some (truth true)) → b ≡ true →
     Moves before after it (IsBehindTest text names e) (Some y)
@@ -156,7 +157,7 @@ moves_test before after it y text names e values b ex p same told t =
       λ q. (subst (λ (z : List Value). value_of text names z it.position e ≡ Some (truth true)) same (told.0 t), q),
     ))
 
-pub fails_test : (before after : List (List Value)) (it : stored.Item) (text : List ℕ) (names : List (List ℕ)) (e : Expression) (values : List Value)
+pub fails_test : (before after : List (List Value)) (it : stored.Item) (text : Input) (names : List (List ℕ)) (e : Expression) (values : List Value)
     (b : Bool) → values ≡ slice_index_or before it.env [] →
     IsTrue b ↔ (value_of text names values it.position e ≡ Some (truth true)) → b ≡ false →
     Moves before after it (IsBehindTest text names e) None
@@ -165,13 +166,13 @@ fails_test before after it text names e values b same told f =
     (λ keys x h. refuted b told f (subst (λ (z : List Value). value_of text names z it.position e ≡ Some (truth true)) (sym same) h.0))
 
 -- a value in an environment that was lent as `values`
-value_there : (before : List (List Value)) (it : stored.Item) (text : List ℕ) (names : List (List ℕ)) (e : Expression) (values : List Value)
+value_there : (before : List (List Value)) (it : stored.Item) (text : Input) (names : List (List ℕ)) (e : Expression) (values : List Value)
     (r o : Option Value) → values ≡ slice_index_or before it.env [] → r ≡ value_of text names values it.position e → r ≡ o →
     value_of text names (slice_index_or before it.env []) it.position e ≡ o
 value_there before it text names e values r o same told is =
     ap (λ (z : List Value). value_of text names z it.position e) (sym same) ∙ sym told ∙ is
 
-pub moves_bind : (before after : List (List Value)) (it y : stored.Item) (text : List ℕ) (names : List (List ℕ)) (e : Expression) (values : List Value)
+pub moves_bind : (before after : List (List Value)) (it y : stored.Item) (text : Input) (names : List (List ℕ)) (e : Expression) (values : List Value)
     (r : Option Value) (v : Value) → Extends before after → IsPast before after it (Some v) it.position y → values ≡ slice_index_or before it.env [] →
     r ≡ value_of text names values it.position e → r ≡ Some v → Moves before after it (IsBehindBind text names e) (Some y)
 moves_bind before after it y text names e values r v ex p same told is =
@@ -182,7 +183,7 @@ moves_bind before after it y text names e values r v ex p same told is =
       λ q. (v, has, q),
     ))
 
-pub fails_bind : (before after : List (List Value)) (it : stored.Item) (text : List ℕ) (names : List (List ℕ)) (e : Expression) (values : List Value)
+pub fails_bind : (before after : List (List Value)) (it : stored.Item) (text : Input) (names : List (List ℕ)) (e : Expression) (values : List Value)
     (r : Option Value) → values ≡ slice_index_or before it.env [] → r ≡ value_of text names values it.position e → r ≡ None →
     Moves before after it (IsBehindBind text names e) None
 fails_bind before after it text names e values r same told is =
@@ -193,7 +194,7 @@ fails_bind before after it text names e values r same told is =
 abbrev bare : stored.Item → ℕ → ℕ → stored.Item
 bare it dot end = record { instance = it.instance; alternative = it.alternative; dot = dot; env = it.env; position = end }
 
-pub moves_bare : (it : stored.Item) (end dot : ℕ) → dot ≡ suc it.dot → (text : List ℕ) (envs : List (List Value)) →
+pub moves_bare : (it : stored.Item) (end dot : ℕ) → dot ≡ suc it.dot → (text : Input) (envs : List (List Value)) →
     Moves envs envs it (IsPastCall text None [] end)
     (Some (record { instance = it.instance; alternative = it.alternative; dot = dot; env = it.env; position = end }))
 moves_bare it end dot is text envs =

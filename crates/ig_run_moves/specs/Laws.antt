@@ -1,5 +1,6 @@
 -- What comes of items, and what stored ones stand for.
 use Rattle.std.specs.Prelude.{◌≡◌, ◌↔◌, ℕ, ◌<◌, List, length, Option, Some, None, slice_get}
+use Rattle.ig_text.specs.Input.{Input}
 use Rattle.ig_text.specs.declared.pattern.Pattern.{Pattern}
 use Rattle.ig_expr.specs.Expression.{Expression}
 use Rattle.ig_expr.specs.declared.value.Value.{Value}
@@ -24,7 +25,7 @@ StepsAreBehind =
 -- a reachable item is complete exactly where there is no step behind its dot
 abbrev pub EndsAreComplete : Type 0
 EndsAreComplete =
-    (core : List Nonterminal) (text : List ℕ) (it : Item) → IsWellKinded core → Reachable core text it →
+    (core : List Nonterminal) (text : Input) (it : Item) → IsWellKinded core → Reachable core text it →
     IsComplete core it ↔ (step_at core it.instance.nonterminal it.alternative it.dot ≡ None)
 
 -- what is called, with which label and which excluded patterns
@@ -36,40 +37,40 @@ pub record SameCall (i j : Instance) (l m : Option (List ℕ)) (e f : List Patte
 -- an item calls one instance
 abbrev pub CallsAreOne : Type 0
 CallsAreOne =
-    (core : List Nonterminal) (text : List ℕ) (it : Item) (one other : Instance) (label second : Option (List ℕ))
+    (core : List Nonterminal) (text : Input) (it : Item) (one other : Instance) (label second : Option (List ℕ))
     (excluded others : List Pattern) → Calls core text it one label excluded → Calls core text it other second others →
     SameCall one other label second excluded others
 
 -- before a test an item passes to what is behind it, and nothing else comes of it
 abbrev pub BeforeTests : Type 0
 BeforeTests =
-    (core : List Nonterminal) (text : List ℕ) (it : Item) (names : List (List ℕ)) (e : Expression) →
+    (core : List Nonterminal) (text : Input) (it : Item) (names : List (List ℕ)) (e : Expression) →
     StandsBefore core it names (Test e) → Comes core text it (IsBehindTest text names e it) NoItem NoCall ⊥
 
 -- before a bind, too
 abbrev pub BeforeBinds : Type 0
 BeforeBinds =
-    (core : List Nonterminal) (text : List ℕ) (it : Item) (names : List (List ℕ)) (name : List ℕ) (e : Expression) →
+    (core : List Nonterminal) (text : Input) (it : Item) (names : List (List ℕ)) (name : List ℕ) (e : Expression) →
     StandsBefore core it names (Bind name e) → Comes core text it (IsBehindBind text names e it) NoItem NoCall ⊥
 
 -- before a terminal it reads to what is behind it
 abbrev pub BeforeTerminals : Type 0
 BeforeTerminals =
-    (core : List Nonterminal) (text : List ℕ) (it : Item) (names : List (List ℕ)) (what : Pattern) (label : Option (List ℕ))
+    (core : List Nonterminal) (text : Input) (it : Item) (names : List (List ℕ)) (what : Pattern) (label : Option (List ℕ))
     (excluded : List Pattern) → StandsBefore core it names (Term what label excluded) →
     Comes core text it NoItem (IsBehind text what label excluded it) NoCall ⊥
 
 -- before a call it calls what the arguments make
 abbrev pub BeforeCalls : Type 0
 BeforeCalls =
-    (core : List Nonterminal) (text : List ℕ) (it : Item) (names : List (List ℕ)) (callee : ℕ) (arguments : List Expression)
+    (core : List Nonterminal) (text : Input) (it : Item) (names : List (List ℕ)) (callee : ℕ) (arguments : List Expression)
     (label : Option (List ℕ)) (excluded : List Pattern) → StandsBefore core it names (Call callee arguments label excluded) →
     Comes core text it NoItem NoItem (IsCallBy text names callee arguments label excluded it) ⊥
 
 -- nothing comes of a complete item alone
 abbrev pub CompleteItemsEnd : Type 0
 CompleteItemsEnd =
-    (core : List Nonterminal) (text : List ℕ) (it : Item) → IsComplete core it →
+    (core : List Nonterminal) (text : Input) (it : Item) → IsComplete core it →
     Comes core text it NoItem NoItem NoCall (IsComplete core it)
 
 -- a stored item is named, and stands for the same

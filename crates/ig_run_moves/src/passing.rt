@@ -1,6 +1,7 @@
 //! The item after a step, by what the step bound.
-ghost use Rattle.std.specs.Prelude.{◌≡◌, ◌<◌, ◌∷◌, ◌++◌, [], ℕ, IfOk, List, None, Some, length};
+ghost use Rattle.std.specs.Prelude.{◌≡◌, ◌<◌, ◌∷◌, ◌++◌, [], IfOk, List, None, Some, length};
 ghost use Rattle.std.specs.Prelude.{slice_get, slice_index_or};
+ghost use Rattle.ig_text.specs.Input.{Input};
 ghost use Rattle.ig_expr.specs.declared.value.Value.{Value};
 ghost use Rattle.ig_item.specs.WellKinded.{NoneTwice};
 ghost use Rattle.ig_run_moves.specs.Rules.{IsPastCall};
@@ -18,7 +19,7 @@ use std::alloc::{AllocError, Global};
 /// takes no memory; it is refused where 32 bits don't hold the dot.
 #[inline(always)]
 pub fn past_bare(item: Item, end: u32) -> Result<Item, AllocError>
-    ensures { IfOk result (λ y. (text : List ℕ) (envs : List (List Value)) →
+    ensures { IfOk result (λ y. (text : Input) (envs : List (List Value)) →
         Moves envs envs item (IsPastCall text None [] end) (Some y)) }
 {
     let Some(dot) = item.dot.checked_add(1) else {

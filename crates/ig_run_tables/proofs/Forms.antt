@@ -3,6 +3,7 @@ use Rattle.std.proofs.Common.{◌≡◌, ℕ, zero, suc, List, [], ◌∷◌, �
 use Rattle.std.specs.Prelude.{option_map, option_and_then, slice_index_or, ℤ}
 use Rattle.std.proofs.lemmas.Option.{same_Some, slice_get-map, get_or_from_slice_get}
 use Rattle.std.proofs.lemmas.List.{append-nil, append_assoc, drop_all}
+use Rattle.ig_text.specs.Input.{Input}
 use Rattle.ig_expr.specs.Evaluation.{value_of, with_two}
 use Rattle.ig_expr.specs.Expression.{Expression, Integer, Truth, Here, Variable, Binary}
 use Rattle.ig_expr.specs.Names.{place_of}
@@ -44,7 +45,7 @@ placed values here None a h = cc
 placed values here (Some k) a h = ap (value_at values here) (same_Some (atom.Place k) a h)
 
 -- an expression that is an atom has its value
-pub atom_value : (text : List ℕ) (names : List (List ℕ)) (values : List Value) (here : ℕ) (e : Expression) (a : Atom) →
+pub atom_value : (text : Input) (names : List (List ℕ)) (values : List Value) (here : ℕ) (e : Expression) (a : Atom) →
     atom_of names e ≡ Some a → value_of text names values here e ≡ value_at values here a
 atom_value text names values here (Integer n) a h = ap (value_at values here) (same_Some (atom.Constant (value.Int n)) a h)
 atom_value text names values here (Truth b) a h = ap (value_at values here) (same_Some (atom.Constant (value.Bool b)) a h)
@@ -52,12 +53,12 @@ atom_value text names values here Here a h = ap (value_at values here) (same_Som
 atom_value text names values here (Variable x) a h = placed values here (place_of names x) a h
 atom_value text names values here e a h = cc
 
-form_alone : (text : List ℕ) (names : List (List ℕ)) (values : List Value) (here : ℕ) (e : Expression) (a : Atom) →
+form_alone : (text : Input) (names : List (List ℕ)) (values : List Value) (here : ℕ) (e : Expression) (a : Atom) →
     form_of names e ≡ form.Alone a → value_of text names values here e ≡ value_at values here a
 form_alone text names values here (Binary op x y) a h = absurd (binary_is_not op (atom_of names x) (atom_of names y) a h)
 form_alone text names values here e a h = atom_value text names values here e a (alone_is (atom_of names e) a h)
 
-form_binary : (text : List ℕ) (names : List (List ℕ)) (values : List Value) (here : ℕ) (e : Expression) (op : Op) (a b : Atom) →
+form_binary : (text : Input) (names : List (List ℕ)) (values : List Value) (here : ℕ) (e : Expression) (op : Op) (a b : Atom) →
     form_of names e ≡ form.Binary op a b →
     value_of text names values here e ≡ with_two (operation op) (value_at values here a) (value_at values here b)
 form_binary text names values here (Binary o x y) op a b h =
@@ -80,12 +81,12 @@ compared_is op (Some (value.Int a)) (Some (value.Int b)) r h = comparison_is op 
 compared_is op o p r h = cc
 
 -- the value of an expression whose form is an atom
-pub value_alone : (text : List ℕ) (names : List (List ℕ)) (values : List Value) (here : ℕ) (e : Expression) (f : Form) (a : Atom)
+pub value_alone : (text : Input) (names : List (List ℕ)) (values : List Value) (here : ℕ) (e : Expression) (f : Form) (a : Atom)
     (r : Option Value) → f ≡ form_of names e → f ≡ form.Alone a → r ≡ value_at values here a → r ≡ value_of text names values here e
 value_alone text names values here e f a r compiled is told = told ∙ sym (form_alone text names values here e a (sym compiled ∙ is))
 
 -- the value of an expression whose form is a comparison
-pub value_compared : (text : List ℕ) (names : List (List ℕ)) (values : List Value) (here : ℕ) (e : Expression) (f : Form) (op : Op)
+pub value_compared : (text : Input) (names : List (List ℕ)) (values : List Value) (here : ℕ) (e : Expression) (f : Form) (op : Op)
     (a b : Atom) (x y : Option Value) (o : Option Bool) (r : Bool) → f ≡ form_of names e → f ≡ form.Binary op a b →
     x ≡ value_at values here a → y ≡ value_at values here b → o ≡ compared op x y → o ≡ Some r →
     Some (value.Bool r) ≡ value_of text names values here e
@@ -175,14 +176,14 @@ made_at g f xs zs k x d made at =
     (ap (λ z. slice_get z k) made ∙ slice_get-map f (map g xs) k ∙ ap (option_map f) (slice_get-map g xs k ∙ ap (option_map g) at))
 
 -- an expression whose form is an atom with a value has that value
-atom_at : (text : List ℕ) (names : List (List ℕ)) (values : List Value) (here : ℕ) (e : Expression) (f : Form) (v : Value) →
+atom_at : (text : Input) (names : List (List ℕ)) (values : List Value) (here : ℕ) (e : Expression) (f : Form) (v : Value) →
     f ≡ form_of names e → value_by values here f ≡ Some v → value_of text names values here e ≡ Some v
 atom_at text names values here e (form.Alone a) v compiled told = form_alone text names values here e a (sym compiled) ∙ told
 atom_at text names values here e (form.Binary op a b) v compiled told = cc
 atom_at text names values here e form.Other v compiled told = cc
 
 -- expressions have the values that their forms have alone
-pub own_values : (text : List ℕ) (names : List (List ℕ)) (values : List Value) (here : ℕ) (es : List Expression) (vs : List Value) →
+pub own_values : (text : Input) (names : List (List ℕ)) (values : List Value) (here : ℕ) (es : List Expression) (vs : List Value) →
     map (value_by values here) (map (form_of names) es) ≡ map Some vs → map (value_of text names values here) es ≡ map Some vs
 own_values text names values here [] [] h = refl
 own_values text names values here [] (v ∷ vs) h = cc
@@ -193,7 +194,7 @@ own_values text names values here (e ∷ es) (v ∷ vs) h =
     λ i. atom_at text names values here e (form_of names e) v refl first i ∷ own_values text names values here es vs rest i
 
 -- the arguments are the values of the environment
-pub arguments_own : (text : List ℕ) (names : List (List ℕ)) (values : List Value) (here : ℕ) (es : List Expression) (forms : List Form)
+pub arguments_own : (text : Input) (names : List (List ℕ)) (values : List Value) (here : ℕ) (es : List Expression) (forms : List Form)
     (a : Arguments) → forms ≡ map (form_of names) es → AreOwn values here forms → Some Own ≡ Some a →
     map (value_of text names values here) es ≡ map Some (values_in values a)
 arguments_own text names values here es forms a compiled own is =

@@ -1,6 +1,7 @@
 -- Expressions whose variables are looked up before the run.
 use Rattle.std.specs.Prelude.{◌≡◌, ℕ, Bool, not, List, [], ◌∷◌, Option, Some, None, option_map, slice_get, map, ℤ, pos, int_lt, int_le}
 use Rattle.std.specs.Ordering.{int_eq}
+use Rattle.ig_text.specs.Input.{Input}
 use Rattle.ig_expr.specs.Evaluation.{value_of}
 use Rattle.ig_expr.specs.Expression as tree
 use Rattle.ig_expr.specs.Expression.{Expression}
@@ -82,7 +83,7 @@ forms_along (names ∷ others) [] = []
 forms_along (names ∷ others) (step ∷ steps) = map (form_of names) (expressions_of step) ∷ forms_along others steps
 
 -- the expressions have these values at a position, in an environment with the names and values that are visible
-abbrev pub AreValuesOf : List ℕ → List (List ℕ) → List Value → ℕ → List Expression → List Value → Type 0
+abbrev pub AreValuesOf : Input → List (List ℕ) → List Value → ℕ → List Expression → List Value → Type 0
 AreValuesOf text names values here es vs = map (value_of text names values here) es ≡ map Some vs
 
 -- the values of arguments, where the environment has these values

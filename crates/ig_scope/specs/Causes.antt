@@ -5,7 +5,7 @@ use Rattle.ig_grammar.specs.Condition.{Condition}
 use Rattle.ig_grammar.specs.WellScoped.{IsLeast}
 use Rattle.ig_scope.specs.declared.cause.Many.TheVariants.{Nonterminals, Parameters, Variables}
 use Rattle.ig_scope.specs.declared.cause.ScopeCause.{ScopeCause}
-use Rattle.ig_scope.specs.declared.cause.ScopeCause.TheVariants.{DuplicateName, UnknownName, WrongArity, UnknownVariable, DuplicateVariable, KindMismatch, NoStart, StartHasParameters, LayoutNotPlain, AlignNotList, MarkInLexical, SyntaxInLexical, TooMany}
+use Rattle.ig_scope.specs.declared.cause.ScopeCause.TheVariants.{DuplicateName, UnknownName, WrongArity, UnknownVariable, DuplicateVariable, KindMismatch, NoStart, StartHasParameters, LayoutNotPlain, AlignNotList, MarkInLexical, SyntaxInLexical, TooMany, BadTabs}
 
 abbrev pub condition_of : ScopeCause → Condition
 condition_of DuplicateName = condition.DuplicateName
@@ -23,6 +23,7 @@ condition_of SyntaxInLexical = condition.SyntaxInLexical
 condition_of (TooMany Nonterminals) = condition.TooMany condition.Nonterminals
 condition_of (TooMany Parameters) = condition.TooMany condition.Parameters
 condition_of (TooMany Variables) = condition.TooMany condition.Variables
+condition_of BadTabs = condition.BadTabs
 
 -- no condition holds
 abbrev pub NoneHolds : (Condition → Type 0) → Type 0

@@ -60,4 +60,7 @@ pub enum ScopeCause {
     /// A limit is passed.
     #[error("too many {which}")]
     TooMany { which: Many },
+    /// The grammar says a width of tabs that isn't from 1 to 16.
+    #[error("bad tabs")]
+    BadTabs,
 }

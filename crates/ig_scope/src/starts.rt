@@ -1,13 +1,14 @@
-//! What holds at the start line.
+//! What holds at the start line and the line of the width of tabs.
 
-ghost use Rattle.std.specs.Prelude.{◌≡◌};
+ghost use Rattle.std.specs.Prelude.{◌≡◌, if◌then◌else◌, Some, None};
 ghost use Rattle.ig_grammar.specs.Condition.{StartMeets};
+ghost use Rattle.ig_grammar.specs.Tabs.{says_bad_width};
 ghost use Rattle.ig_scope.specs.Causes.{Tells};
 
 use crate::cause::ScopeCause;
 use ig_grammar::{Declarations, Grammar};
 
-/// Of the conditions that hold at the start line the one of the least number; `None` exactly where
+/// Of the conditions that hold at these lines the one of the least number; `None` exactly where
 /// none holds there. The declarations are those of the grammar.
 pub fn start_cause(declarations: &Declarations, grammar: &Grammar) -> Option<ScopeCause>
     requires { declarations.now ≡ grammar.now.decls }
@@ -17,7 +18,7 @@ pub fn start_cause(declarations: &Declarations, grammar: &Grammar) -> Option<Sco
         Some(name) => match declarations.find(name) {
             Some(decl) => {
                 if decl.params.as_slice().is_empty() {
-                    None
+                    tabs_cause(grammar.tabs)
                 } else {
                     Some(ScopeCause::StartHasParameters)
                 }
@@ -25,5 +26,24 @@ pub fn start_cause(declarations: &Declarations, grammar: &Grammar) -> Option<Sco
             None => Some(ScopeCause::UnknownName),
         },
         None => Some(ScopeCause::NoStart),
+    }
+}
+
+/// The widest that tabs may be.
+const MOST_TABS: i64 = 16;
+
+/// `BadTabs` where the width isn't one that tabs may have.
+fn tabs_cause(tabs: Option<i64>) -> Option<ScopeCause>
+    ensures { result ≡ (if says_bad_width tabs then Some ScopeCause.BadTabs else None) }
+{
+    match tabs {
+        Some(width) => {
+            if 1 <= width && width <= MOST_TABS {
+                None
+            } else {
+                Some(ScopeCause::BadTabs)
+            }
+        }
+        None => None,
     }
 }

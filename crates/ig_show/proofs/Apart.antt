@@ -27,7 +27,7 @@ use Rattle.ig_grammar.specs.declared.declaration.Decl.{Decl}
 use Rattle.ig_grammar.specs.declared.grammar.Grammar.{Grammar}
 use Rattle.ig_show.specs.Pieces.{Piece, blank, line_end, token}
 use Rattle.ig_show.specs.Signs.{associativity_pieces, integer_pieces, has_operator, operator_token, pattern_token}
-use Rattle.ig_show.specs.CanonicalText.{expression_pieces, as_part, separated, joined, comma, call_pieces, filter_pieces, let_pieces, bindings_pieces, symbol_pieces, alternative_pieces, further_symbols, alternatives_pieces, further_alternatives, level_pieces, levels_pieces, parameter_pieces, kind_token, head_pieces, declaration_pieces, declaration_token, start_pieces, pieces_of}
+use Rattle.ig_show.specs.CanonicalText.{expression_pieces, as_part, separated, joined, comma, call_pieces, filter_pieces, let_pieces, bindings_pieces, symbol_pieces, alternative_pieces, further_symbols, alternatives_pieces, further_alternatives, level_pieces, levels_pieces, parameter_pieces, kind_token, head_pieces, declaration_pieces, declaration_token, start_pieces, tabs_pieces, pieces_of}
 
 -- the token begins with a character that ends a word or a number
 abbrev pub ends_word : Token → Bool
@@ -314,5 +314,11 @@ start_apart : (start : Option (List ℕ)) (ps : List Piece) → Apart ps → Apa
 start_apart None ps a = a
 start_apart (Some name) ps a = (refl, (refl, (refl, a)))
 
+tabs_apart : (tabs : Option ℤ) (ps : List Piece) → Apart ps → Apart (tabs_pieces tabs ps)
+tabs_apart None ps a = a
+tabs_apart (Some n) ps a = (refl, integer_apart n (token Semicolon ∷ line_end ∷ ps) refl (refl, a))
+
 pub grammar_apart : (g : Grammar) → Apart (pieces_of g)
-grammar_apart g = start_apart g.start (separated [] declaration_pieces g.decls []) (declarations_apart g.decls)
+grammar_apart g =
+    start_apart g.start (tabs_pieces g.tabs (separated [] declaration_pieces g.decls []))
+    (tabs_apart g.tabs (separated [] declaration_pieces g.decls []) (declarations_apart g.decls))

@@ -1,6 +1,6 @@
 -- The tokens of a canonical text follow the rules as the grammar, where some tokens do.
 use Rattle.std.proofs.Common.{◌≡◌, sym, subst, refl, List, [], ◌∷◌, ℕ}
-use Rattle.std.specs.Prelude.{codes}
+use Rattle.std.specs.Prelude.{codes, Option, ℤ}
 use Rattle.ig_text.specs.declared.pattern.Pattern.{Pattern}
 use Rattle.ig_text.specs.declared.pattern.Pattern.TheVariants as patterns
 use Rattle.ig_expr.specs.Expression.{Expression}
@@ -26,10 +26,10 @@ use Rattle.ig_grammar.specs.declared.declaration.Level.{Level}
 use Rattle.ig_grammar.specs.declared.declaration.Decl.{Decl}
 use Rattle.ig_grammar.specs.declared.grammar.Grammar.{Grammar}
 use Rattle.ig_notation_syntax.specs.Rules as rules
-use Rattle.ig_notation_syntax.specs.Rules.{IsOperator, IsFunction, ReadsTerm, ReadsExpression, ReadsArguments, IsPattern, IsFilter, ReadsFilters, ReadsSign, IsSeparated, filtered, ReadsSymbol, ReadsMarked, ReadsPost, ReadsAtom, ReadsAlternatives, ReadsAlternative, ReadsAssociativity, ReadsLevel, ReadsLevels, IsKind, ReadsParameters, IsDeclKind, ReadsDeclaration, ReadsDeclarations, FollowsRules}
+use Rattle.ig_notation_syntax.specs.Rules.{IsOperator, IsFunction, ReadsTerm, ReadsExpression, ReadsArguments, IsPattern, IsFilter, ReadsFilters, ReadsSign, IsSeparated, filtered, ReadsSymbol, ReadsMarked, ReadsPost, ReadsAtom, ReadsAlternatives, ReadsAlternative, ReadsAssociativity, ReadsLevel, ReadsLevels, IsKind, ReadsParameters, IsDeclKind, ReadsDeclaration, ReadsDeclarations, ReadsBody, FollowsRules}
 use Rattle.ig_show.specs.Pieces.{Piece, blank, line_end, token, tokens}
 use Rattle.ig_show.specs.Signs.{associativity_pieces, operator_token, function_name, pattern_token}
-use Rattle.ig_show.specs.CanonicalText.{expression_pieces, part_pieces, separated, joined, comma, call_pieces, filter_sign, filter_pieces, symbol_pieces, alternative_pieces, further_symbols, alternatives_pieces, further_alternatives, level_pieces, levels_pieces, parameter_pieces, kind_token, head_pieces, declaration_pieces, declaration_token, tokens_of}
+use Rattle.ig_show.specs.CanonicalText.{expression_pieces, part_pieces, separated, tabs_pieces, joined, comma, call_pieces, filter_sign, filter_pieces, symbol_pieces, alternative_pieces, further_symbols, alternatives_pieces, further_alternatives, level_pieces, levels_pieces, parameter_pieces, kind_token, head_pieces, declaration_pieces, declaration_token, tokens_of}
 
 is_operator : (o : Op) → IsOperator (operator_token o) o
 is_operator op.Add = rules.addition
@@ -296,6 +296,11 @@ declarations_to rules.no_declaration = rules.no_declaration
 declarations_to (rules.further_declaration s m d ds r rs) =
     rules.further_declaration _ _ d ds (declaration_to r (separated [] declaration_pieces ds [])) (declarations_to rs)
 
+body_to : {s : List Token} {tabs : Option ℤ} {ds : List Decl} → ReadsBody s tabs ds →
+    ReadsBody (tokens (tabs_pieces tabs (separated [] declaration_pieces ds []))) tabs ds
+body_to (rules.with_tabs n s ds d) = rules.with_tabs n _ ds (declarations_to d)
+body_to (rules.without_tabs s ds d) = rules.without_tabs _ ds (declarations_to d)
+
 pub tokens_follow : (ts : List Token) (g : Grammar) → FollowsRules ts g → FollowsRules (tokens_of g) g
-tokens_follow ts g (rules.with_start name s ds d) = rules.with_start name _ ds (declarations_to d)
-tokens_follow ts g (rules.without_start s ds d) = rules.without_start _ ds (declarations_to d)
+tokens_follow ts g (rules.with_start name s tabs ds d) = rules.with_start name _ tabs ds (body_to d)
+tokens_follow ts g (rules.without_start s tabs ds d) = rules.without_start _ tabs ds (body_to d)

@@ -1,5 +1,6 @@
 -- The tokens of a canonical text have spellings, where those have that read as the grammar.
 use Rattle.std.proofs.Common.{◌≡◌, sym, subst, refl, ℕ, List, [], ◌∷◌, Bool, true, false}
+use Rattle.std.specs.Prelude.{Option, ℤ}
 use Rattle.ig_text.specs.declared.pattern.Pattern.{Pattern}
 use Rattle.ig_expr.specs.Expression.{Expression}
 use Rattle.ig_expr.specs.declared.operator.Op.{Op}
@@ -21,10 +22,10 @@ use Rattle.ig_grammar.specs.declared.declaration.Decl.{Decl}
 use Rattle.ig_grammar.specs.declared.declaration.DeclKind.{DeclKind}
 use Rattle.ig_grammar.specs.declared.grammar.Grammar.{Grammar}
 use Rattle.ig_notation_syntax.specs.Rules as rules
-use Rattle.ig_notation_syntax.specs.Rules.{IsFunction, ReadsTerm, ReadsExpression, ReadsArguments, IsPattern, IsFilter, ReadsFilters, ReadsSign, IsSeparated, filtered, ReadsSymbol, ReadsMarked, ReadsPost, ReadsAtom, ReadsAlternatives, ReadsAlternative, ReadsAssociativity, ReadsLevel, ReadsLevels, ReadsParameters, IsDeclKind, ReadsDeclaration, ReadsDeclarations, FollowsRules}
+use Rattle.ig_notation_syntax.specs.Rules.{IsFunction, ReadsTerm, ReadsExpression, ReadsArguments, IsPattern, IsFilter, ReadsFilters, ReadsSign, IsSeparated, filtered, ReadsSymbol, ReadsMarked, ReadsPost, ReadsAtom, ReadsAlternatives, ReadsAlternative, ReadsAssociativity, ReadsLevel, ReadsLevels, ReadsParameters, IsDeclKind, ReadsDeclaration, ReadsDeclarations, ReadsBody, FollowsRules}
 use Rattle.ig_show.specs.Pieces.{Piece, blank, line_end, token, tokens}
 use Rattle.ig_show.specs.Signs.{associativity_pieces, has_operator, operator_token, function_name, pattern_token}
-use Rattle.ig_show.specs.CanonicalText.{expression_pieces, part_pieces, as_part, separated, joined, comma, call_pieces, filter_sign, filter_pieces, symbol_pieces, alternative_pieces, further_symbols, alternatives_pieces, further_alternatives, level_pieces, levels_pieces, parameter_pieces, kind_token, declaration_pieces, declaration_token, tokens_of}
+use Rattle.ig_show.specs.CanonicalText.{expression_pieces, part_pieces, as_part, separated, tabs_pieces, joined, comma, call_pieces, filter_sign, filter_pieces, symbol_pieces, alternative_pieces, further_symbols, alternatives_pieces, further_alternatives, level_pieces, levels_pieces, parameter_pieces, kind_token, declaration_pieces, declaration_token, tokens_of}
 use Rattle.ig_show.specs.SpellingLaws.{IsSpelled, FixedTokensAreSpelled}
 use Rattle.ig_show.proofs.ReadsBack.{arguments_behind, alternatives_behind, levels_behind, parameters_behind, head_to, same_tokens}
 
@@ -337,6 +338,11 @@ module _ (fixed : FixedTokensAreSpelled) where
       let k = declaration_spelled r a in
       k.spelled (separated [] declaration_pieces ds []) (declarations_spelled rs k.behind)
 
+  body_spelled : {s : List Token} {tabs : Option ℤ} {ds : List Decl} → ReadsBody s tabs ds → AllSpelled s →
+      AllSpelled (tokens (tabs_pieces tabs (separated [] declaration_pieces ds [])))
+  body_spelled (rules.with_tabs n s ds d) a = (a.0, (a.1.0, (a.1.1.0, declarations_spelled d a.1.1.1)))
+  body_spelled (rules.without_tabs s ds d) a = declarations_spelled d a
+
   pub tokens_spelled : {ts : List Token} {g : Grammar} → FollowsRules ts g → AllSpelled ts → AllSpelled (tokens_of g)
-  tokens_spelled (rules.with_start name s ds d) a = (a.0, (a.1.0, (a.1.1.0, declarations_spelled d a.1.1.1)))
-  tokens_spelled (rules.without_start s ds d) a = declarations_spelled d a
+  tokens_spelled (rules.with_start name s tabs ds d) a = (a.0, (a.1.0, (a.1.1.0, body_spelled d a.1.1.1)))
+  tokens_spelled (rules.without_start s tabs ds d) a = body_spelled d a

@@ -1,5 +1,5 @@
 -- The canonical text of a grammar. `x_pieces x ps` are the pieces of x, and then ps.
-use Rattle.std.specs.Prelude.{ℕ, List, [], ◌∷◌, ◌++◌, Bool, Option, Some, None, if◌then◌else◌, codes, encode_utf8_all}
+use Rattle.std.specs.Prelude.{ℕ, List, [], ◌∷◌, ◌++◌, Bool, Option, Some, None, if◌then◌else◌, codes, encode_utf8_all, ℤ}
 use Rattle.ig_text.specs.declared.pattern.Pattern.{Pattern}
 use Rattle.ig_expr.specs.Expression.{Expression, Integer, Truth, Variable, Negative, Binary, Of, Same, Spells, Outer, Inside, FreeBefore, FreeAfter}
 use Rattle.ig_expr.specs.Expression as expression
@@ -182,8 +182,13 @@ abbrev pub start_pieces : Option (List ℕ) → List Piece → List Piece
 start_pieces None ps = ps
 start_pieces (Some name) ps = token sign.Start ∷ blank ∷ token (Name name) ∷ token Semicolon ∷ line_end ∷ ps
 
+-- the line `tabs N;` where a width of tabs is said
+abbrev pub tabs_pieces : Option ℤ → List Piece → List Piece
+tabs_pieces None ps = ps
+tabs_pieces (Some n) ps = token sign.Tabs ∷ blank ∷ integer_pieces n (token Semicolon ∷ line_end ∷ ps)
+
 abbrev pub pieces_of : Grammar → List Piece
-pieces_of g = start_pieces g.start (separated [] declaration_pieces g.decls [])
+pieces_of g = start_pieces g.start (tabs_pieces g.tabs (separated [] declaration_pieces g.decls []))
 
 -- the canonical text of a grammar, its tokens, and the canonical texts of expressions and patterns
 abbrev pub text_of : Grammar → List ℕ

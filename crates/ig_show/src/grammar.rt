@@ -11,12 +11,13 @@ ghost use Rattle.ig_show.specs.CanonicalText.{level_pieces, levels_pieces};
 ghost use Rattle.ig_show.specs.CanonicalText.{parameter_pieces, head_pieces, joined, comma};
 ghost use Rattle.ig_show.specs.CanonicalText.{declaration_token, declaration_pieces};
 ghost use Rattle.ig_show.specs.CanonicalText.{kind_token, separated};
-ghost use Rattle.ig_show.specs.CanonicalText.{start_pieces, expression_bytes, pattern_bytes};
+ghost use Rattle.ig_show.specs.CanonicalText.{start_pieces, tabs_pieces};
+ghost use Rattle.ig_show.specs.CanonicalText.{expression_bytes, pattern_bytes};
 ghost use Rattle.ig_show.specs.Writing.{IsText};
 
 use crate::expressions::push_expression;
 use crate::levels::{push_associativity, push_greater};
-use crate::spelling::{push_head, push_name, push_pattern, push_text};
+use crate::spelling::{push_head, push_integer, push_name, push_pattern, push_text};
 use crate::symbols::push_alternatives;
 use ig_expr::{Expr, Kind};
 use ig_grammar::{Decl, DeclKind, Grammar, Level, Param};
@@ -155,14 +156,36 @@ fn push_start_line(out: &mut String, name: &Word) -> Result<(), AllocError>
     push_text(out, ";\n")
 }
 
-/// The canonical text of a grammar, as UTF-8: the line `start NAME;` where there is a start, and a
-/// line for each declaration. Reading it gives the grammar again, where some text does. Refuses
-/// only for want of memory.
+/// Adds the line of a width of tabs, where one is said.
+fn push_tabs(out: &mut String, tabs: Option<i64>) -> Result<(), AllocError>
+    ensures { OnOk result (Adds (string_bytes out.old) (string_bytes out.new)
+        (tabs_pieces tabs)) }
+{
+    match tabs {
+        None => Ok(()),
+        Some(width) => push_tabs_line(out, width),
+    }
+}
+
+/// Adds the line of a width of tabs.
+fn push_tabs_line(out: &mut String, width: i64) -> Result<(), AllocError>
+    ensures { OnOk result (Adds (string_bytes out.old) (string_bytes out.new)
+        (tabs_pieces (Some width))) }
+{
+    push_text(out, "tabs ")?;
+    push_integer(out, width)?;
+    push_text(out, ";\n")
+}
+
+/// The canonical text of a grammar, as UTF-8: the line `start NAME;` where there is a start, the
+/// line `tabs N;` where it says a width of tabs, and a line for each declaration. Reading it gives
+/// the grammar again, where some text does. Refuses only for want of memory.
 pub fn show_grammar(alloc: Global, grammar: &Grammar) -> Result<Vec<u8>, AllocError>
     ensures { IfOk result (λ bytes. IsText bytes.items (text_of grammar.now)) }
 {
     let mut out = String::new(alloc);
     push_start(&mut out, &grammar.start)?;
+    push_tabs(&mut out, grammar.tabs)?;
     push_declarations(&mut out, grammar.decls.as_slice())?;
     Ok(out.into_bytes())
 }

@@ -1,5 +1,5 @@
 -- A grammar of one declaration without alternatives is well scoped.
-use Rattle.std.proofs.Common.{◌≡◌, ◌∙◌, ℕ, zero, suc, ◌<◌, List, [], ◌∷◌, Bool, true, Some, None, slice_get, if◌then◌else◌, refl, sym, ap, subst, arith, get_or, codes, chars}
+use Rattle.std.proofs.Common.{◌≡◌, ◌∙◌, ℕ, zero, suc, ◌<◌, List, [], ◌∷◌, Bool, true, false, Some, None, slice_get, if◌then◌else◌, refl, sym, ap, subst, arith, get_or, codes, chars}
 use Rattle.std.proofs.lemmas.Option.{same_Some}
 use Rattle.std.specs.Cmp.Lexicographic.{bytes_decides}
 use Rattle.ig_text.specs.Words.{is_word}
@@ -27,6 +27,7 @@ start_fine name _ (meets.no_start e) = cc
 start_fine name _ (meets.start_has_parameters other decl e is some) =
     let h = found name other (same_Some name other e) in
     some (ap (λ (d : Decl). d.params) (sym (same_Some (barren name) decl (sym h ∙ is))))
+start_fine name _ (meets.bad_tabs bad) = let no : false ≡ true = bad in cc
 
 head_fine : (name : List ℕ) (c : Condition) → HeadMeets (barren name ∷ []) 0 (barren name) c → ⊥
 head_fine name _ (meets.duplicate_name among) = none_in_nil name among

@@ -11,8 +11,6 @@
 #![tactic(auto)]
 
 #[cfg(test)]
-mod arena;
-#[cfg(test)]
 mod entries;
 #[cfg(test)]
 mod expr;

@@ -54,6 +54,7 @@ fn optional(alloc: Global) -> Result<Grammar, AllocError> {
     let decls = Decls::from_vec(vec![in alloc; declaration(alloc)?]?);
     Ok(Grammar {
         start: Some(Word::new(alloc, "S")?),
+        tabs: None,
         decls,
     })
 }
@@ -81,7 +82,11 @@ fn barren_grammar(alloc: Global, name: Word) -> Result<Grammar, AllocError>
         levels: Levels::new(alloc),
     };
     let decls = Decls::from_vec(vec![in alloc; decl]?);
-    Ok(Grammar { start, decls })
+    Ok(Grammar {
+        start,
+        tabs: None,
+        decls,
+    })
 }
 
 /// The grammar of a declaration `S` without alternatives, checked.

@@ -64,11 +64,12 @@ fn shows_a_grammar(rt: HostRuntime) -> Result<(), Fail> {
     let alloc = rt.alloc();
     let grammar = Grammar {
         start: Some(Word::new(alloc, "S")?),
+        tabs: Some(8),
         decls: Decls::new(alloc),
     };
     let shown = show_grammar(alloc, &grammar);
     drop(grammar);
-    assert_eq!(rt; shown?.as_slice(), b"start S;\n".as_slice());
+    assert_eq!(rt; shown?.as_slice(), b"start S;\ntabs 8;\n".as_slice());
     Ok(())
 }
 

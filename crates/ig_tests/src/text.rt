@@ -33,6 +33,18 @@ fn counts_lines_and_columns(rt: HostRuntime) -> Result<(), Fail> {
 }
 
 #[test]
+fn tabs_go_on_to_stops(rt: HostRuntime) -> Result<(), Fail> {
+    let text = Text::decode(rt.alloc(), "ab\tc\n\té".as_bytes())?;
+    assert_eq!(rt; text.column(3), Some(4));
+    let text = text.with_tabs(4);
+    assert_eq!(rt; text.column(2), Some(3));
+    assert_eq!(rt; text.column(3), Some(5));
+    assert_eq!(rt; text.column(5), Some(1));
+    assert_eq!(rt; text.with_tabs(16).column(7), Some(18));
+    Ok(())
+}
+
+#[test]
 fn copies_words(rt: HostRuntime) -> Result<(), Fail> {
     let mut words = Words::new(rt.alloc());
     words

@@ -19,7 +19,7 @@ use std::alloc::Global;
 use std::test::Fail;
 
 /// The grammar of one letter.
-const LETTER: &str = "start S; syntax S = \"a\";";
+pub(crate) const LETTER: &str = "start S; syntax S = \"a\";";
 
 /// More items than any text of these tests has.
 const BUDGET: u32 = 1_000_000;
@@ -45,6 +45,7 @@ fn parsed(
 ) -> Result<Result<Forest, ParseFault>, Fail> {
     let text = Text::decode(alloc, text)?;
     let grammar = checked(alloc, grammar)?;
+    let text = text.with_tabs(grammar.tab_width());
     Ok(parse(alloc, &grammar, &text, budget))
 }
 
@@ -63,7 +64,7 @@ const FORMS: &str = "start P; layout W = [ ]* !>> [ ]; lexical Id = [a-z]+ !<< [
         (\"<\" {V \",\"}+ \">\" | \"(\" V+ \")\"); \
         syntax R(k: int) = when (k > 1) \"!\" | when (k <= 1) \".\";";
 
-const LETTER_FOREST: &str =
+pub(crate) const LETTER_FOREST: &str =
     "forest 2 4\nnode 0 $root () 0..1\nalt $root 2\nnode 1 S () 0..1\nalt S.1 3\nitem 0 $root () \
         1 0 [] 0..0\nbegin\nitem 1 S () 1 0 [] 0..0\nbegin\nitem 2 $root () 1 1 [] 0..1\ntake 0 \
         node 1\nitem 3 S () 1 1 [] 0..1\ntake 1 leaf 0..1\n";
@@ -84,6 +85,14 @@ fn parses(rt: HostRuntime) -> Result<(), Fail> {
 fn parses_with_each_form(rt: HostRuntime) -> Result<(), Fail> {
     let forest = forest_under(rt.alloc(), FORMS, b"a = b + - c [d, e] .;")?;
     assert!(rt; !is_ambiguous(&forest));
+    Ok(())
+}
+
+#[test]
+fn parses_with_the_width_of_tabs(rt: HostRuntime) -> Result<(), Fail> {
+    let grammar = "start S; tabs 4; syntax S = \"\\t\" \"a\" when (column(here) == 6);";
+    let forest = forest_under(rt.alloc(), grammar, b"\ta")?;
+    assert_eq!(rt; forest.nodes(), 2);
     Ok(())
 }
 

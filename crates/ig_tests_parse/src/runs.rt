@@ -3,8 +3,7 @@ ghost use Rattle.std.specs.Prelude.{◌≡◌, ◌<◌, [], ◌∷◌, Contains,
 ghost use Rattle.std.specs.List.Sorted.{IsPermutation};
 ghost use Rattle.ig_core.specs.Lowered.{IsBuildable};
 
-use crate::parsing::checked;
-use crate::top_call::{LETTER, LETTER_FOREST};
+use crate::parsing::{LETTER, LETTER_FOREST, checked};
 use ig_engine::run;
 use ig_forest::Forest;
 use ig_grammar::Checked;

@@ -3,6 +3,7 @@ pub mod NormalForm
 pub mod Insertion
 pub mod Joining
 pub mod LineTable
+pub mod StopTable
 pub mod Spelling
 pub mod Ascending
 pub mod Lists

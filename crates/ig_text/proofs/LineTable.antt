@@ -1,11 +1,12 @@
--- The table of line starts gives lines and columns as they are counted in the text.
+-- The table of line starts gives lines as they are counted in the text.
 use Rattle.std.proofs.Common.{◌≡◌, ◌∙◌, ℕ, zero, suc, ◌+◌, ◌-◌, ◌<◌, ◌≤◌, List, [], ◌∷◌, true, false, cond, Some, length, get_or, take, refl, sym, ap, subst, arith, leb}
 use Rattle.std.proofs.lemmas.Bool.Decides.{nat_tests}
 use Rattle.std.proofs.lemmas.List.Sums.{sum_by-cons, count_by-le-length}
-use Rattle.std.proofs.lemmas.List.{length-take, get_or_default}
+use Rattle.std.proofs.lemmas.List.{length-take}
 use Rattle.std.specs.List.{count_by}
 use Rattle.std.specs.List.Sorted.{IsNonDecreasing, IsPartitionPoint}
-use Rattle.ig_text.specs.Lines.{is_line_feed, since_line_feed, line_of, column_of, line_at}
+use Rattle.ig_text.specs.Input.{Input}
+use Rattle.ig_text.specs.Lines.{is_line_feed, line_of, line_at}
 use Rattle.ig_text.specs.LineTable.{starts_behind, line_starts, IsSplitAt}
 
 -- the first start behind a position is greater than it
@@ -80,92 +81,81 @@ moved starts p q k e s = subst (λ (z : ℕ). IsSplitAt starts z k) e s
 counted : (c : ℕ) (cs : List ℕ) → count_by is_line_feed (c ∷ cs) ≡ cond (is_line_feed c) 1 0 + count_by is_line_feed cs
 counted c cs = sum_by-cons (λ x. cond (is_line_feed x) 1 0) c cs
 
--- a position is in the line of the last start that isn't behind it: d is the start of the line of b, and n
--- characters of that line are before b
-placed : (xs : List ℕ) (d b n m i : ℕ) → n + d ≡ b → m ≤ length xs → IsSplitAt (d ∷ starts_behind b xs) (b + m) (suc i) →
-    (count_by is_line_feed (take m xs) ≡ i) ×
-    (since_line_feed n (take m xs) + get_or (d ∷ starts_behind b xs) i 0 ≡ b + m)
-placed xs d b n zero zero h l s = (refl, omega arith)
-placed xs d b n zero (suc i) h l s =
+-- a position is in the line of the last start that isn't behind it: d is the start of the line of b
+placed : (xs : List ℕ) (d b m i : ℕ) → d ≤ b → m ≤ length xs → IsSplitAt (d ∷ starts_behind b xs) (b + m) (suc i) →
+    count_by is_line_feed (take m xs) ≡ i
+placed xs d b zero zero h l s = refl
+placed xs d b zero (suc i) h l s =
     absurd (omega (arith, s.within, s.front 1 (omega arith), first_greater b xs (omega (arith, s.within))))
-placed [] d b n (suc m) i h l s = absurd (omega arith)
-placed (c ∷ cs) d b n (suc m) zero h l s =
+placed [] d b (suc m) i h l s = absurd (omega arith)
+placed (c ∷ cs) d b (suc m) zero h l s =
     let r =
     (elim (is_line_feed c) as
     (λ v. IsSplitAt (d ∷ cond v ((b + 1) ∷ starts_behind (b + 1) cs) (starts_behind (b + 1) cs)) (b + suc m) 1 →
-    (cond v 1 0 + count_by is_line_feed (take m cs) ≡ 0) ×
-    (cond v (since_line_feed 0 (take m cs)) (since_line_feed (n + 1) (take m cs)) + d ≡ b + suc m)) [
+    cond v 1 0 + count_by is_line_feed (take m cs) ≡ 0) [
       | true ↦ λ t. absurd (omega (arith, t.back 1 (omega arith) (omega arith)))
       | false ↦
           λ t.
           let r =
-          placed cs d (b + 1) (n + 1) m 0 (omega arith) (omega arith)
+          placed cs d (b + 1) m 0 (omega arith) (omega arith)
           (moved (d ∷ starts_behind (b + 1) cs) (b + suc m) (b + 1 + m) 1 (omega arith) t) in
-          (omega (arith, r.0), omega (arith, r.1))
+          omega (arith, r)
     ])
     s in
-    (counted c (take m cs) ∙ r.0, r.1)
-placed (c ∷ cs) d b n (suc m) (suc i) h l s =
+    counted c (take m cs) ∙ r
+placed (c ∷ cs) d b (suc m) (suc i) h l s =
     let r =
     (elim (is_line_feed c) as
     (λ v. IsSplitAt (d ∷ cond v ((b + 1) ∷ starts_behind (b + 1) cs) (starts_behind (b + 1) cs)) (b + suc m) (suc (suc i)) →
-    (cond v 1 0 + count_by is_line_feed (take m cs) ≡ suc i) ×
-    (cond v (since_line_feed 0 (take m cs)) (since_line_feed (n + 1) (take m cs)) +
-    get_or (cond v ((b + 1) ∷ starts_behind (b + 1) cs) (starts_behind (b + 1) cs)) i 0 ≡ b + suc m)) [
+    cond v 1 0 + count_by is_line_feed (take m cs) ≡ suc i) [
       | true ↦
           λ t.
           let r =
-          placed cs (b + 1) (b + 1) 0 m i (omega arith) (omega arith)
+          placed cs (b + 1) (b + 1) m i (omega arith) (omega arith)
           (tail_split d ((b + 1) ∷ starts_behind (b + 1) cs) (b + suc m) (b + 1 + m) (suc i) (omega arith) t) in
-          (omega (arith, r.0), omega (arith, r.1))
+          omega (arith, r)
       | false ↦
           λ t.
           let r =
-          placed cs d (b + 1) (n + 1) m (suc i) (omega arith) (omega arith)
+          placed cs d (b + 1) m (suc i) (omega arith) (omega arith)
           (moved (d ∷ starts_behind (b + 1) cs) (b + suc m) (b + 1 + m) (suc (suc i)) (omega arith) t) in
-          (omega (arith, r.0), omega (arith, r.1))
+          omega (arith, r)
     ])
     s in
-    (counted c (take m cs) ∙ r.0, r.1)
-
--- the number of starts up to a position is its line, and the last of these is the start of that line
-at_split : (text starts : List ℕ) (p k : ℕ) → starts ≡ line_starts text → p ≤ length text → IsSplitAt starts p k →
-    (k ≡ line_of text p) × (column_of text p + get_or starts (k - 1) 0 ≡ p + 1)
-at_split text starts p zero e l s =
-    let t : IsSplitAt (line_starts text) p 0 = subst (λ (z : List ℕ). IsSplitAt z p 0) e s in
-    absurd (omega (arith, t.back 0 (omega arith) (omega arith)))
-at_split text starts p (suc i) e l s =
-    let t : IsSplitAt (line_starts text) (0 + p) (suc i) =
-    moved (line_starts text) p (0 + p) (suc i) (omega arith) (subst (λ (z : List ℕ). IsSplitAt z p (suc i)) e s) in
-    let r = placed text 0 0 0 p i refl l t in
-    let same : get_or starts (suc i - 1) 0 ≡ get_or (line_starts text) i 0 =
-    ap (λ (z : ℕ). get_or starts z 0) (omega arith) ∙ ap (λ (z : List ℕ). get_or z i 0) e in
-    (omega (arith, r.0), omega (arith, r.1, same))
+    counted c (take m cs) ∙ r
 
 -- the number of starts up to a position is its line
-pub line_is : (text starts : List ℕ) (p k : ℕ) → starts ≡ line_starts text → p ≤ length text → IsSplitAt starts p k →
-    Some k ≡ line_at text p
+at_split : (text : Input) (starts : List ℕ) (p k : ℕ) → starts ≡ line_starts text.characters → p ≤ length text.characters →
+    IsSplitAt starts p k → k ≡ line_of text p
+at_split text starts p zero e l s =
+    let t : IsSplitAt (line_starts text.characters) p 0 = subst (λ (z : List ℕ). IsSplitAt z p 0) e s in
+    absurd (omega (arith, t.back 0 (omega arith) (omega arith)))
+at_split text starts p (suc i) e l s =
+    let t : IsSplitAt (line_starts text.characters) (0 + p) (suc i) =
+    moved (line_starts text.characters) p (0 + p) (suc i) (omega arith) (subst (λ (z : List ℕ). IsSplitAt z p (suc i)) e s) in
+    omega (arith, placed text.characters 0 0 p i (omega arith) l t)
+
+-- the same, as the line of a position
+pub line_is : (text : Input) (starts : List ℕ) (p k : ℕ) → starts ≡ line_starts text.characters → p ≤ length text.characters →
+    IsSplitAt starts p k → Some k ≡ line_at text p
 line_is text starts p k e l s =
-    let inside : leb p (length text) ≡ true = grind (arith, nat_tests) in
-    rw inside (ap Some (at_split text starts p k e l s).0)
+    let inside : leb p (length text.characters) ≡ true = grind (arith, nat_tests) in
+    rw inside (ap Some (at_split text starts p k e l s))
 
 -- there are no more lines than positions
-pub line_le : (text starts : List ℕ) (p k : ℕ) → starts ≡ line_starts text → p ≤ length text → IsSplitAt starts p k →
-    k ≤ length text + 1
+pub line_le : (text : Input) (starts : List ℕ) (p k : ℕ) → starts ≡ line_starts text.characters → p ≤ length text.characters →
+    IsSplitAt starts p k → k ≤ length text.characters + 1
 line_le text starts p k e l s =
     omega (
       arith,
-      (at_split text starts p k e l s).0,
-      count_by-le-length is_line_feed (take p text),
-      length-take p text,
+      at_split text starts p k e l s,
+      count_by-le-length is_line_feed (take p text.characters),
+      length-take p text.characters,
     )
 
--- the distance from the start of its line gives a position's column
-pub column_is : (text starts : List ℕ) (p k start : ℕ) → starts ≡ line_starts text → p ≤ length text →
-    IsSplitAt starts p k → start ≡ get_or starts (k - 1) start →
-    (start ≤ p) × (p - start + 1 ≡ column_of text p)
-column_is text starts p k start e l s read =
-    let r = at_split text starts p k e l s in
-    let same : get_or starts (k - 1) start ≡ get_or starts (k - 1) 0 =
-    get_or_default starts (k - 1) start 0 (omega (arith, r.0, s.within)) in
-    (omega (arith, r.1, read, same), omega (arith, r.1, read, same))
+-- a position has a start up to it
+pub some_start : (characters starts : List ℕ) (p k : ℕ) → starts ≡ line_starts characters → IsSplitAt starts p k → 0 < k
+some_start characters starts p zero e s =
+    let t : IsSplitAt (line_starts characters) p 0 = subst (λ (z : List ℕ). IsSplitAt z p 0) e s in
+    absurd (omega (arith, t.back 0 (omega arith) (omega arith)))
+some_start characters starts p (suc k) e s = omega arith

@@ -1,8 +1,11 @@
 pub mod Tree
 pub mod Limits
+pub mod Input
 pub mod Place
 pub mod Lines
 pub mod LineTable
+pub mod StopTable
+pub mod Tabled
 pub mod Ranges
 pub mod Class
 pub mod Pattern
@@ -10,3 +13,4 @@ pub mod Decoding
 pub mod Words
 pub mod TagNumber
 pub mod Pairwise
+pub mod Examples

@@ -9,6 +9,10 @@ most_bytes = 4194304
 abbrev pub most_characters : ℕ
 most_characters = 1048576
 
+-- the widest that tabs may be
+abbrev pub most_tabs : ℕ
+most_tabs = 16
+
 -- numbers of 32 bits are below this; so are the numbers that things have, and how many there are of them
 abbrev pub numbers_end : ℕ
 numbers_end = 4294967296

@@ -10,7 +10,7 @@ starts_behind p (c ∷ cs) = if is_line_feed c then (p + 1) ∷ starts_behind (p
 
 -- the positions at which the lines of a text begin
 abbrev pub line_starts : List ℕ → List ℕ
-line_starts text = 0 ∷ starts_behind 0 text
+line_starts characters = 0 ∷ starts_behind 0 characters
 
 -- the first k of the numbers are at most p, and the others are greater
 pub record IsSplitAt (numbers : List ℕ) (p k : ℕ) : Type 0 where

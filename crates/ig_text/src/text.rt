@@ -1,12 +1,16 @@
-ghost use Rattle.std.specs.Prelude.{◌≡◌, ◌+◌, ◌<◌, ◌≤◌, ◌↔◌, ℕ, chars, drop, length, slice_get};
+ghost use Rattle.std.specs.Prelude.{◌≡◌, ◌+◌, ◌*◌, ◌<◌, ◌≤◌, ◌↔◌, ℕ, chars, drop, length};
+ghost use Rattle.std.specs.Prelude.{slice_get};
 ghost use Rattle.std.specs.Prelude.{IfErr, IfNone, IfOk, IfSome, IsTrue, option_map};
 ghost use Rattle.std.specs.Prelude.{slice_range};
-ghost use Rattle.ig_text.specs.Limits.{most_bytes, most_characters};
+ghost use Rattle.ig_text.specs.Input.{with_width, IsTabWidth, KeepsLimits};
+ghost use Rattle.ig_text.specs.Limits.{most_bytes, most_characters, most_tabs};
 ghost use Rattle.ig_text.specs.Decoding.{IsDecoded, IsFaulty};
 ghost use Rattle.ig_text.specs.Lines.{line_at, column_at, column_of};
+ghost use Rattle.ig_text.specs.StopTable.{IsMark};
 ghost use Rattle.ig_text.specs.Place.{IsInside, Spells, AreSame};
 
-use crate::lines;
+use crate::stops::Stop;
+use crate::{lines, stops};
 use std::alloc::{AllocError, Global};
 use std::marker::Model;
 use std::str;
@@ -40,23 +44,27 @@ impl From<AllocError> for TextFault {
     }
 }
 
-/// A text of at most 1,048,576 characters. It keeps the positions at which its lines begin, so that
-/// lines and columns are found in logarithmic time.
+/// A text of at most 1,048,576 characters, and a width of tabs from 1 to 16. It keeps the positions
+/// at which its lines begin and those behind its tabs, so that lines and columns are found in
+/// logarithmic time.
 #[derive(Drop)]
 pub struct Text {
     characters: Vec<char>,
     line_starts: Vec<u32>,
+    stops: Vec<Stop>,
+    tabs: u32,
 }
 
 impl Model for Text {
-    ghost use Rattle.std.specs.Prelude.{List, ℕ};
-    ghost use Rattle.ig_text.specs.LineTable.{IsIndexed};
+    ghost use Rattle.ig_text.specs.Input.{Input};
+    ghost use Rattle.ig_text.specs.Tabled.{IsTabled};
 
-    ghost Value = { List ℕ };
+    ghost Value = { Input };
 
-    ghost view = { λ t. t.characters.items };
+    ghost view = { λ t. record { characters = t.characters.items; tabs = t.tabs } };
 
-    ghost invariant = { λ t. IsIndexed t.characters.items t.line_starts.items };
+    ghost invariant = { λ t.
+        IsTabled t.characters.items t.line_starts.items t.stops.items t.tabs };
 }
 
 /// The most bytes that a text may have.
@@ -66,10 +74,11 @@ pub const MOST_BYTES: usize = 4_194_304;
 pub const MOST_CHARACTERS: usize = 1_048_576;
 
 impl Text {
-    /// The characters of UTF-8 bytes. Refuses more than 4,194,304 bytes as `TooLong`, then bytes
-    /// that aren't UTF-8 as `NotUtf8`, then more than 1,048,576 characters as `TooLong`.
+    /// The characters of UTF-8 bytes, with tabs of width 1. Refuses more than 4,194,304 bytes as
+    /// `TooLong`, then bytes that aren't UTF-8 as `NotUtf8`, then more than 1,048,576 characters as
+    /// `TooLong`.
     pub fn decode(alloc: Global, bytes: &[u8]) -> Result<Text, TextFault>
-        ensures text { IfOk result (IsDecoded bytes.now) }
+        ensures text { IfOk result (IsDecoded 1 bytes.now) }
         ensures fault { IfErr result (IsFaulty bytes.now) }
     {
         if bytes.len() > MOST_BYTES {
@@ -86,7 +95,7 @@ impl Text {
     /// The characters of a string, `TooLong` where there are more than 1,048,576.
     fn of_str(alloc: Global, text: &str) -> Result<Text, TextFault>
         requires { length text.now ≤ most_bytes }
-        ensures text { IfOk result (IsDecoded text.now) }
+        ensures text { IfOk result (IsDecoded 1 text.now) }
         ensures fault { IfErr result (IsFaulty text.now) }
     {
         let characters = characters_of(alloc, text)?;
@@ -94,16 +103,35 @@ impl Text {
             return Err(TextFault::TooLong);
         }
         let line_starts = lines::starts_of(alloc, characters.as_slice())?;
+        let stops = stops::stops_of(alloc, characters.as_slice())?;
         Ok(Text {
             characters,
             line_starts,
+            stops,
+            tabs: 1,
         })
+    }
+
+    /// The same characters with tabs of this width, from 1 to 16. Takes no memory.
+    pub fn with_tabs(self, tabs: u32) -> Text
+        requires { IsTabWidth tabs }
+        ensures { result ≡ with_width tabs self }
+    {
+        let mut stops = self.stops;
+        stops::set_stops(stops.as_mut_slice(), self.characters.as_slice(), tabs);
+        Text {
+            characters: self.characters,
+            line_starts: self.line_starts,
+            stops,
+            tabs,
+        }
     }
 
     /// The number of characters. Takes no memory.
     pub fn len(&self) -> u32
-        ensures length { result ≡ length self.now }
+        ensures length { result ≡ length self.now.characters }
         ensures limit { result ≤ most_characters }
+        ensures limits { KeepsLimits self.now }
     {
         self.characters.len() as u32
     }
@@ -111,7 +139,7 @@ impl Text {
     /// The character at a position; `None` exactly where the position isn't below the length.
     /// Takes no memory.
     pub fn char_at(&self, position: u32) -> Option<char>
-        ensures { result ≡ slice_get self.now position }
+        ensures { result ≡ slice_get self.now.characters position }
     {
         self.characters.get(position as usize).copied()
     }
@@ -127,9 +155,10 @@ impl Text {
         Some(lines::count_up_to(self.line_starts.as_slice(), position) as u32)
     }
 
-    /// The column of a position: 1 plus the number of characters since the last line feed before
-    /// it, or since the start; 0 for -1. `None` exactly where the position is less than -1 or
-    /// greater than the length. Takes no memory.
+    /// The column of a position: 1 at the start of its line; each character before it on its line
+    /// adds 1, but a tab goes on to the least greater column that is 1 plus a multiple of the
+    /// width; 0 for -1. `None` exactly where the position is less than -1 or greater than the
+    /// length. Takes no memory.
     pub fn column(&self, position: i64) -> Option<i64>
         ensures { result ≡ column_at self.now position }
     {
@@ -144,11 +173,25 @@ impl Text {
 
     /// The column of a position, which is at most the length.
     fn column_of(&self, position: u32) -> u32
-        requires { position ≤ length self.now }
+        requires { position ≤ length self.now.characters }
         ensures { result ≡ column_of self.now position }
     {
+        let mark = self.mark(position);
+        mark.column + (position - mark.position)
+    }
+
+    /// The last place up to a position that begins a line or stands behind a tab.
+    fn mark(&self, position: u32) -> Stop
+        requires { position ≤ length self.now.characters }
+        ensures mark { IsMark self.now position result }
+        ensures few { column_of self.now position ≤ most_tabs * most_characters + 1 }
+    {
         let line = lines::count_up_to(self.line_starts.as_slice(), position);
-        position - self.line_starts[line - 1] + 1
+        let start = Stop {
+            position: self.line_starts[line - 1],
+            column: 1,
+        };
+        stops::last_up_to(self.stops.as_slice(), position, start)
     }
 
     /// Whether both spans lie in the text and have equal characters. A span lies in the text where
@@ -178,7 +221,7 @@ impl Text {
         ensures none { IfNone result (IsInside self.now span → ⊥) }
         ensures inside { IfSome result (λ _. IsInside self.now span) }
         ensures letters { IfSome result (λ r.
-            r.now ≡ slice_range self.now span.begin span.end) }
+            r.now ≡ slice_range self.now.characters span.begin span.end) }
     {
         self.characters.get(span.begin as usize..span.end as usize)
     }
@@ -186,7 +229,8 @@ impl Text {
     /// The character at a position, and the position behind it; `None` exactly where the position
     /// isn't below the length.
     pub(crate) fn step(&self, position: u32) -> Option<(char, u32)>
-        ensures { result ≡ option_map (λ c. (c, position + 1)) (slice_get self.now position) }
+        ensures { result ≡ option_map (λ c. (c, position + 1))
+            (slice_get self.now.characters position) }
     {
         let character = self.characters.get(position as usize)?;
         Some((*character, position + 1))
@@ -194,10 +238,10 @@ impl Text {
 
     /// The characters from a position on; `None` exactly where the position is past the end.
     pub(crate) fn from(&self, position: u32) -> Option<&[char]>
-        ensures none { IfNone result (length self.now < position) }
-        ensures within { IfSome result (λ _. position ≤ length self.now) }
-        ensures rest { IfSome result (λ r. r.now ≡ drop position self.now) }
-        ensures few { length self.now ≤ most_characters }
+        ensures none { IfNone result (length self.now.characters < position) }
+        ensures within { IfSome result (λ _. position ≤ length self.now.characters) }
+        ensures rest { IfSome result (λ r. r.now ≡ drop position self.now.characters) }
+        ensures few { length self.now.characters ≤ most_characters }
     {
         self.characters.get(position as usize..)
     }

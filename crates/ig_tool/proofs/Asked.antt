@@ -4,6 +4,7 @@ use Rattle.std.proofs.lemmas.List.{append-nil}
 use Rattle.std.specs.Prelude.{chars}
 use Rattle.std.specs.Io.KnownBytes.{Appends}
 use Rattle.std.proofs.lemmas.Option.{same_Some}
+use Rattle.ig_text.specs.Input.{Input}
 use Rattle.ig_text.specs.Decoding.{IsDecoded, IsFaulty}
 use Rattle.ig_text.specs.Limits.{most_bytes, most_characters}
 use Rattle.ig_text.specs.declared.text.TextFault.{TextFault}
@@ -11,6 +12,7 @@ use Rattle.ig_text.specs.declared.text.TextFault.TheVariants as text_fault
 use Rattle.ig_outside.specs.States.{ShelfState, SinkState}
 use Rattle.ig_outside.specs.Told.{Told, silent, nothing, bytes}
 use Rattle.ig_text.proofs.Options.{one_value}
+use Rattle.ig_grammar.specs.Tabs.{tab_width}
 use Rattle.ig_grammar.specs.declared.grammar.Grammar.{Grammar}
 use Rattle.ig_grammar.specs.WellScoped.{IsFirst}
 use Rattle.ig_notation.specs.Outcome as own
@@ -76,15 +78,15 @@ gives_held nothing xs ys e h = cc
 gives_held (bytes zs) xs ys e h = let same : zs ≡ xs = cc in h ∙ same
 
 -- bytes that are a text have no fault
-not_faulty : (ys text : List ℕ) (fault : TextFault) → IsDecoded ys text → IsFaulty ys fault →
+not_faulty : (width : ℕ) (ys : List ℕ) (text : Input) (fault : TextFault) → IsDecoded width ys text → IsFaulty ys fault →
     fault ≢ text_fault.Memory → ⊥
-not_faulty ys text (text_fault.NotUtf8 at) d f c = f.not_utf8 d.utf8
-not_faulty ys text text_fault.TooLong d (inl f) c = let few : length ys ≤ most_bytes = d.few_bytes in omega arith
-not_faulty ys text text_fault.TooLong d (inr f) c =
+not_faulty width ys text (text_fault.NotUtf8 at) d f c = f.not_utf8 d.utf8
+not_faulty width ys text text_fault.TooLong d (inl f) c = let few : length ys ≤ most_bytes = d.few_bytes in omega arith
+not_faulty width ys text text_fault.TooLong d (inr f) c =
     let few : length (chars ys) ≤ most_characters = subst (λ (z : List ℕ). length z ≤ most_characters) d.characters d.few_characters in
     let more : most_characters < length (chars ys) = f.1 in
     omega arith
-not_faulty ys text text_fault.Memory d f c = c refl
+not_faulty width ys text text_fault.Memory d f c = c refl
 
 -- a sink that got nothing got the empty text
 nothing_added : (told : Option (List ℕ)) → Appends told told []
@@ -166,7 +168,7 @@ module _ (laws : Laws) (words : List (List ℕ)) (shelf : ShelfState) (request :
       accepted.text.reading
 
 -- where the shelf tells that it holds the grammar and the input, these are what was read
-module _ (laws : Laws) (words : List (List ℕ)) (shelf : ShelfState) (request : Request) (g : Grammar) (input : List ℕ)
+module _ (laws : Laws) (words : List (List ℕ)) (shelf : ShelfState) (request : Request) (g : Grammar) (input : Input)
     (asked : Asks words shelf request g input) where
   told_input : (r : Request) (f : List ℕ) → IsCommand words r → input_file r ≡ Some f → shelf.holds f ≡ bytes asked.input_bytes
   told_input r f command e =
@@ -196,16 +198,20 @@ module _ (laws : Laws) (words : List (List ℕ)) (shelf : ShelfState) (request :
   pub no_refused_input : (r : Request) (f ys : List ℕ) (fault : TextFault) → IsCommand words r → input_file r ≡ Some f →
       MayGive (shelf.holds f) ys → IsFaulty ys fault → fault ≢ text_fault.Memory → ⊥
   no_refused_input r f ys fault command e gives faulty cause =
-      not_faulty asked.input_bytes input fault asked.decoded
+      not_faulty (tab_width g.tabs) asked.input_bytes input fault asked.decoded
       (subst (λ (z : List ℕ). IsFaulty z fault) (given_input r f ys command e gives) faulty) cause
 
-  pub same_grammar : (r : Request) (h : Grammar) (text : List ℕ) → HasFiles words shelf r h text → h ≡ g
+  pub same_grammar : (r : Request) (h : Grammar) (text : Input) → HasFiles words shelf r h text → h ≡ g
   same_grammar r h text files =
       grammar_is laws words shelf request asked.command asked.grammar asked.names_grammar asked.grammar_bytes asked.holds_grammar g
       asked.accepted r h files.command files.of_grammar
 
-  pub same_input : (r : Request) (h : Grammar) (text : List ℕ) → HasFiles words shelf r h text → text ≡ input
+  pub same_input : (r : Request) (h : Grammar) (text : Input) → HasFiles words shelf r h text → text ≡ input
   same_input r h text files =
+      let letters : text.characters ≡ input.characters =
       files.of_input.decoded.characters ∙
       (ap chars (given_input r files.of_input.name files.of_input.bytes files.command files.of_input.named files.of_input.gives) ∙
-      sym asked.decoded.characters)
+      sym asked.decoded.characters) in
+      let width : text.tabs ≡ input.tabs =
+      files.of_input.decoded.tabs ∙ ap (λ (z : Grammar). tab_width z.tabs) (same_grammar r h text files) ∙ sym asked.decoded.tabs in
+      ap (λ z. record { characters = z; tabs = text.tabs }) letters ∙ ap (λ z. record { characters = input.characters; tabs = z }) width

@@ -1,6 +1,7 @@
 -- Completeness, from the main theorem.
 use Rattle.std.proofs.Common.{◌≡◌, ℕ, List, [], ◌⊎◌, inl, inr, refl, sym, ◌∙◌, subst, Option, Some}
 use Rattle.std.proofs.lemmas.Option.{same_Some}
+use Rattle.ig_text.specs.Input.{Input}
 use Rattle.ig_text.specs.Tree.{Tree}
 use Rattle.ig_outside.specs.States.{ShelfState, SinkState}
 use Rattle.ig_grammar.specs.Checked.{CheckedGrammar}
@@ -21,14 +22,14 @@ use Rattle.ig_tool.proofs.Asked.{Laws}
 use Rattle.ig_tool.proofs.HeadlineLaw.{headline}
 
 -- the word behind which a listing begins is the text of a cursor
-not_lost : (c : CheckedGrammar) (input : List ℕ) (f : Forest) (depth : Option ℕ) (after : Option (List ℕ)) (last : Option Tree) (word : List ℕ) →
+not_lost : (c : CheckedGrammar) (input : Input) (f : Forest) (depth : Option ℕ) (after : Option (List ℕ)) (last : Option Tree) (word : List ℕ) →
     after ≡ Some word → IsNoCursor c input f depth word → Begins c input f depth after last → ⊥
 not_lost c input f depth after last word e none at_first = cc
 not_lost c input f depth after last word e none (at_cursor given cursor t is) =
     none (record { cursor = cursor; tree = t }) (record { eligible = is.eligible; text_is = sym (same_Some given word e) ∙ is.text_is })
 
 -- what comes of a lawful job is a text
-finishes_lawful : (c : CheckedGrammar) (input : List ℕ) (f : Forest) (job : Job) (s : Status) (text note : List ℕ) →
+finishes_lawful : (c : CheckedGrammar) (input : Input) (f : Forest) (job : Job) (s : Status) (text note : List ℕ) →
     IsForestOf c input f → IsLawful c input job → Finishes c input f job s text note → (s ≡ status.Done) × (note ≡ [])
 finishes_lawful c input f job s text note is lawful printed = (refl, refl)
 finishes_lawful c input f job s text note is lawful (depth_needed listing without none) =
@@ -41,7 +42,7 @@ finishes_lawful c input f job s text note is lawful (told_cyclic answer exact) =
 finishes_lawful c input f job s text note is lawful (told_spans given name found wanted are) = (refl, refl)
 finishes_lawful c input f job s text note is lawful (told_report report line told is_line) = (refl, refl)
 
-module _ (g : Grammar) (input : List ℕ) (budget : ℕ) (job : Job) (few : IsOver (unchanged g) input budget → ⊥)
+module _ (g : Grammar) (input : Input) (budget : ℕ) (job : Job) (few : IsOver (unchanged g) input budget → ⊥)
     (some : IsParsed (unchanged g) input) (lawful : IsLawful (unchanged g) input job) (out notes : Change SinkState) where
   -- the outcome is that text
   outcome_done : (s : Status) (text note : List ℕ) → Outcome g input budget job s text note → Got out text → Got notes note →

@@ -1,11 +1,13 @@
 -- What the top call decides, from what was loaded and run, and what it answers.
 use Rattle.std.proofs.Common.{◌≡◌, ◌≢◌, ℕ, suc, ◌<◌, ◌≤◌, List, length, [], inl, inr, refl, sym, ◌∙◌, ap, subst, subst₂, arith, Some, Result, Ok, Err, Vec, Global}
 use Rattle.std.specs.Result.{IsErrAnd}
+use Rattle.ig_text.specs.Input.{Input}
 use Rattle.ig_text.specs.declared.text.Text.{Text}
 use Rattle.ig_text.specs.Decoding.{IsDecoded}
 use Rattle.ig_outside.specs.Counts.{risen}
 use Rattle.ig_outside.specs.States.{ShelfState, SinkState}
 use Rattle.ig_outside.specs.Told.{Told}
+use Rattle.ig_grammar.specs.Tabs.{tab_width}
 use Rattle.ig_grammar.specs.Checked.{CheckedGrammar}
 use Rattle.ig_grammar.specs.declared.grammar.Grammar.{Grammar}
 use Rattle.ig_core.specs.Lowered.{IsBuildable}
@@ -198,19 +200,28 @@ module _ (words : List (List ℕ)) (shelf : Change ShelfState) (file : Source) (
 
 -- what comes of a parser and an input
 module _ (c : CheckedGrammar) (budget : ℕ) (job : Job) (shelf : Change ShelfState) (name : List ℕ) where
-  pub runs_at_input : (stop : Stop) → LoadsInput shelf name (Err stop) → RunsJob c budget job shelf name (Err stop)
-  runs_at_input (halt.Note s line) li = decisions.at_input s line.items li
-  runs_at_input halt.Memory li = li
+  pub runs_at_input : (width : ℕ) (stop : Stop) → LoadsInput width shelf name (Err stop) → RunsJob c budget job shelf name (Err stop)
+  runs_at_input width (halt.Note s line) li = decisions.at_input s line.items li
+  runs_at_input width halt.Memory li = li
 
-  pub runs_parse : (text : Text) (r : Result (Vec ℕ Global) Stop) → LoadsInput shelf name (Ok text) →
+  pub runs_parse : (width : ℕ) → width ≡ tab_width c.grammar.tabs → (text : Text) (r : Result (Vec ℕ Global) Stop) →
+      LoadsInput width shelf name (Ok text) →
       ParsesText c text budget job r → RunsJob c budget job shelf name r
-  runs_parse text (Ok out) li h =
-      record { calm = li.0; input_bytes = li.1.0; input = text; gives_input = li.1.1; decoded = li.1.2; is_parse = h }
-  runs_parse text (Err (halt.Note s line)) li h = decisions.at_parse s line.items li.1.0 text li.0 li.1.1 li.1.2 h
-  runs_parse text (Err halt.Memory) li h = inl li.0
+  runs_parse width w text (Ok out) li h =
+      record {
+        calm = li.0;
+        input_bytes = li.1.0;
+        input = text;
+        gives_input = li.1.1;
+        decoded = subst (λ z. IsDecoded z li.1.0 text) w li.1.2;
+        is_parse = h;
+      }
+  runs_parse width w text (Err (halt.Note s line)) li h =
+      decisions.at_parse s line.items li.1.0 text li.0 li.1.1 (subst (λ z. IsDecoded z li.1.0 text) w li.1.2) h
+  runs_parse width w text (Err halt.Memory) li h = inl li.0
 
 -- what comes of a parser, an input and the text of a forest
-module _ (c : CheckedGrammar) (input : List ℕ) (shelf : Change ShelfState) (name : List ℕ) where
+module _ (c : CheckedGrammar) (input : Input) (shelf : Change ShelfState) (name : List ℕ) where
   pub checks_at_file : (stop : Stop) → LoadsForest shelf name (Err stop) → RunsCheck c input shelf name (Err stop)
   checks_at_file (halt.Note s line) lf = decisions.at_file s line.items lf
   checks_at_file halt.Memory lf = lf
@@ -245,7 +256,7 @@ module _ (words : List (List ℕ)) (shelf : Change ShelfState) (request : Reques
     λ d. let p = r.status_is in cc,
   )
 
-  has_files : (ys text : List ℕ) → MayGive told ys → IsDecoded ys text → HasFiles words shelf.before request g text
+  has_files : (ys : List ℕ) (text : Input) → MayGive told ys → IsDecoded (tab_width g.tabs) ys text → HasFiles words shelf.before request g text
   has_files ys text gives decoded =
       record {
         command = command;
@@ -261,11 +272,15 @@ module _ (words : List (List ℕ)) (shelf : Change ShelfState) (job : Job) (gram
     abbrev asked : Request
     asked = request_for job grammar input budget
 
-    abbrev files_with : (ys text : List ℕ) → MayGive (shelf.before.holds input) ys → IsDecoded ys text →
+    abbrev files_with : (ys : List ℕ) (text : Input) → MayGive (shelf.before.holds input) ys → IsDecoded (tab_width g.tabs) ys text →
         HasFiles words shelf.before asked g text
     files_with = has_files words shelf asked g command has input (input_of_job job grammar input budget)
 
-    stopped_at_parse : (s : Status) (note text : List ℕ) → shelf.after.faults ≡ shelf.before.faults →
+    -- the parser's grammar is the one that was read, so it says the same width
+    widened : (ys : List ℕ) (text : Input) → IsDecoded (tab_width parser.grammar.tabs) ys text → IsDecoded (tab_width g.tabs) ys text
+    widened ys text = subst (λ (z : CheckedGrammar). IsDecoded (tab_width z.grammar.tabs) ys text) prepared.0
+
+    stopped_at_parse : (s : Status) (note : List ℕ) (text : Input) → shelf.after.faults ≡ shelf.before.faults →
         HasFiles words shelf.before asked g text →
         StopsParse (unchanged g) text budget job s note → Decided words shelf s [] note 2 × (s ≢ status.Done)
     stopped_at_parse s note text e files (texts.over_budget z line more p q) =
@@ -282,7 +297,7 @@ module _ (words : List (List ℕ)) (shelf : Change ShelfState) (job : Job) (gram
         stopped_at_input words shelf asked g command has input (input_of_job job grammar input budget) s note at
     stopped_run s note (decisions.at_parse z line ys text e gives_input decoded at) =
         let P : CheckedGrammar → Type 0 = λ z. StopsParse z text budget job s note in
-        stopped_at_parse s note text e (files_with ys text gives_input decoded) (subst P prepared.0 at)
+        stopped_at_parse s note text e (files_with ys text gives_input (widened ys text decoded)) (subst P prepared.0 at)
 
     made_text : (text : List ℕ) →
         GivesText parser budget job (shelf.before.holds input) shelf.before.faults shelf.after.faults text →
@@ -291,7 +306,7 @@ module _ (words : List (List ℕ)) (shelf : Change ShelfState) (job : Job) (gram
         let Q : CheckedGrammar → Type 0 = λ z. IsParse z h.input budget job status.Done text [] in
         let is = subst Q prepared.0 h.is_parse in
         parsed grammar input g h.input budget job is.forest status.Done text [] h.calm
-        (files_with h.input_bytes h.input h.gives_input h.decoded) is.is is.finishes
+        (files_with h.input_bytes h.input h.gives_input (widened h.input_bytes h.input h.decoded)) is.is is.finishes
 
 once_more : (k before between after : ℕ) → between ≡ risen before → after ≡ raised k between → after ≡ raised (suc k) before
 once_more k before between after c1 c2 = c2 ∙ ap (raised k) c1
@@ -347,18 +362,18 @@ module _ (words : List (List ℕ)) (file : Source) (input name : List ℕ) (comm
   twice = once_more 1 first.fetches loaded.fetches read.fetches count count_2
 
   -- then the input stops the command
-  pub decides_at_input : (stop : Stop) → LoadsInput (change loaded read) input (Err stop) → Decides words (change first read) (Err stop)
-  decides_at_input (halt.Note s line) h =
+  pub decides_at_input : (width : ℕ) (stop : Stop) → LoadsInput width (change loaded read) input (Err stop) → Decides words (change first read) (Err stop)
+  decides_at_input width (halt.Note s line) h =
       let P : Told → ℕ → Type 0 = λ told old. StopsAt told input old read.faults IsNoInput s line.items in
       let d = stopped_at_input words (change first read) (verify file input name) c.grammar command has_one input refl s line.items
       (subst₂ P (same input) lg.0 h) in
       (2, d.0, twice, d.1)
-  decides_at_input halt.Memory h =
+  decides_at_input width halt.Memory h =
       (2, for_names (verify file input name) 2 command (omega arith), twice, subst (λ z. Stood z read.faults) lg.0 h)
 
   -- or the input was loaded, and then the text of the forest looked at
   module _ (last : ShelfState) (text : Text) (same_2 : (n : List ℕ) → read.holds n ≡ loaded.holds n)
-      (li : LoadsInput (change loaded read) input (Ok text)) (count_3 : Fetched (change read last) 1) where
+      (width : ℕ) (its : width ≡ tab_width parser.grammar.tabs) (li : LoadsInput width (change loaded read) input (Ok text)) (count_3 : Fetched (change read last) 1) where
     abbrev both : Change ShelfState
     both = change first last
 
@@ -371,7 +386,8 @@ module _ (words : List (List ℕ)) (file : Source) (input name : List ℕ) (comm
     files : HasFiles words first (verify file input name) c.grammar text
     files =
         has_files words both (verify file input name) c.grammar command has_one input refl li.1.0 text
-        (subst (λ z. MayGive z li.1.0) (same input) li.1.1) li.1.2
+        (subst (λ z. MayGive z li.1.0) (same input) li.1.1)
+        (subst (λ z. IsDecoded z li.1.0 text) (its ∙ ap (λ (z : CheckedGrammar). tab_width z.grammar.tabs) prepared.0) li.1.2)
 
     held : read.holds name ≡ first.holds name
     held = same_2 name ∙ same name

@@ -1,10 +1,12 @@
 -- What the files of one job come to.
 use Rattle.std.proofs.Common.{◌≡◌, ℕ, List, [], ◌∷◌, refl, sym, ◌∙◌, ap, subst, Some, None, Result, Ok, Err, Vec, Global, slice_get, inl}
 use Rattle.std.specs.Result.{IsErrAnd}
+use Rattle.ig_text.specs.Decoding.{IsDecoded}
 use Rattle.ig_text.proofs.Options.{passed_on}
 use Rattle.ig_outside.specs.States.{ShelfState}
 use Rattle.ig_outside.specs.Told.{Told}
 use Rattle.ig_turns.specs.Lists.{Job}
+use Rattle.ig_grammar.specs.Tabs.{tab_width}
 use Rattle.ig_notation.specs.declared.fault.Large.TheVariants.{Bytes}
 use Rattle.ig_command_endings.specs.Change.{Fetched, IsCalm, change}
 use Rattle.ig_command_endings.specs.Stops.{RefusesWith}
@@ -15,7 +17,7 @@ use Rattle.ig_command_endings.specs.declared.stop.Stop.TheVariants as halt
 use Rattle.ig_command_sources.specs.Refusals as refusals
 use Rattle.ig_command_sources.specs.Refusals.{large_text}
 use Rattle.ig_command_sources.specs.Sources as sources
-use Rattle.ig_command_sources.specs.Sources.{GivesGrammarText, GivesInput, IsNoGrammar, IsNoInput, MayGive, RefusesNone, StopsAt, StopsFile}
+use Rattle.ig_command_sources.specs.Sources.{GivesGrammarText, GivesInput, IsNoInput, MayGive, RefusesNone, StopsAt, StopsFile}
 use Rattle.ig_tool.specs.Batch.{missing, unread}
 use Rattle.ig_tool.specs.Files.{at_grammar, at_input, by_grammar, by_input, one_more, two_more}
 use Rattle.ig_tool.specs.Loading.{Accepts, FindsGrammar, FindsInput, IsAt, LoadsJob, PlacesGrammar, StopsLoading, grammars_of, refused_input, refused_text}
@@ -85,7 +87,7 @@ module _ (shelf : ShelfState) (new : ShelfState) (job : Job) where
 module _ (old mid new : ShelfState) (job : Job) (kept : List Kept) (at : ℕ) (calm : IsCalm (change old mid))
     (first : Fetched (change old mid) 1) (second : Fetched (change mid new) 1)
     (same : (name : List ℕ) → mid.holds name ≡ old.holds name) (xs first_name : List ℕ) (named : first_name ≡ job.grammar)
-    (told : MayGive (old.holds first_name) xs) (is : IsAt kept xs at) where
+    (told : MayGive (old.holds first_name) xs) (is : IsAt kept xs at) (tabs : ℕ) (width : tabs ≡ tab_width is.grammar.tabs) where
   gives : MayGive (old.holds job.grammar) xs
   gives = subst (λ (z : List ℕ). MayGive (old.holds z) xs) named told
 
@@ -113,7 +115,7 @@ module _ (old mid new : ShelfState) (job : Job) (kept : List Kept) (at : ℕ) (c
   given_before : (ys : List ℕ) → MayGive (mid.holds job.input) ys → MayGive (old.holds job.input) ys
   given_before ys h = subst (λ (z : Told). MayGive z ys) (same job.input) h
 
-  loads_job : (r : Result Loaded Stop) → FindsInput at (mid.holds job.input) job.input mid.faults new.faults r →
+  loads_job : (r : Result Loaded Stop) → FindsInput tabs at (mid.holds job.input) job.input mid.faults new.faults r →
       LoadsJob (change old new) kept job r
   loads_job (Ok (loaded.Accepted place input)) h = (
     h.0 ∙ calm,
@@ -129,7 +131,7 @@ module _ (old mid new : ShelfState) (job : Job) (kept : List Kept) (at : ℕ) (c
             accepted = is.accepted;
             input_bytes = h.2.0;
             gives_input = given_before h.2.0 h.2.1;
-            decoded = h.2.2;
+            decoded = subst (λ (z : ℕ). IsDecoded z h.2.0 input) width h.2.2;
           },
           ap (slice_get (grammars_of kept)) h.1 ∙ is.there,
         ),
@@ -150,28 +152,28 @@ module _ (old mid new : ShelfState) (job : Job) (kept : List Kept) (at : ℕ) (c
   loads_job (Err stop) h = stops_at_second stop h
 
   pub loads_named : (name : List ℕ) (r : Result Loaded Stop) → name ≡ job.input →
-      FindsInput at (mid.holds name) name mid.faults new.faults r → LoadsJob (change old new) kept job r
+      FindsInput tabs at (mid.holds name) name mid.faults new.faults r → LoadsJob (change old new) kept job r
   loads_named name r e h =
-      loads_job r (subst (λ (z : List ℕ). FindsInput at (mid.holds z) z mid.faults new.faults r) e h)
+      loads_job r (subst (λ (z : List ℕ). FindsInput tabs at (mid.holds z) z mid.faults new.faults r) e h)
 
 -- an input that is refused is an answer, and one that can't be read isn't
-finds_refused : (at : ℕ) (told : Told) (name : List ℕ) (old new : ℕ) (s : Status) (line : Vec ℕ Global) →
-    StopsAt told name old new IsNoInput s line.items → FindsInput at told name old new (refused_input (halt.Note s line))
-finds_refused at told name old new s line (sources.missing t note e n p q) =
-    subst (λ z. FindsInput at told name old new (refused_input (halt.Note z line))) (sym p)
+finds_refused : (tabs at : ℕ) (told : Told) (name : List ℕ) (old new : ℕ) (s : Status) (line : Vec ℕ Global) →
+    StopsAt told name old new IsNoInput s line.items → FindsInput tabs at told name old new (refused_input (halt.Note s line))
+finds_refused tabs at told name old new s line (sources.missing t note e n p q) =
+    subst (λ z. FindsInput tabs at told name old new (refused_input (halt.Note z line))) (sym p)
     (sources.missing status.ReadFault line.items e n refl q)
-finds_refused at told name old new s line (sources.unread t note rose p q) =
-    subst (λ z. FindsInput at told name old new (refused_input (halt.Note z line))) (sym p)
+finds_refused tabs at told name old new s line (sources.unread t note rose p q) =
+    subst (λ z. FindsInput tabs at told name old new (refused_input (halt.Note z line))) (sym p)
     (sources.unread status.ReadFault line.items rose refl q)
-finds_refused at told name old new s line (sources.refused t note xs e gives why) =
-    subst (λ z. FindsInput at told name old new (refused_input (halt.Note z line))) (sym why.status_is)
+finds_refused tabs at told name old new s line (sources.refused t note xs e gives why) =
+    subst (λ z. FindsInput tabs at told name old new (refused_input (halt.Note z line))) (sym why.status_is)
     (e, (xs, gives, (let P : Status → Type 0 = λ z. IsNoInput xs z line.items in subst P why.status_is why)))
 
-pub finds_no_input : (at : ℕ) (told : Told) (name : List ℕ) (old new : ℕ) (stop : Stop) (r : Result Loaded Stop) →
-    GivesInput told name old new (Err stop) → r ≡ refused_input stop → FindsInput at told name old new r
-finds_no_input at told name old new (halt.Note s line) r h e =
-    subst (FindsInput at told name old new) (sym e) (finds_refused at told name old new s line h)
-finds_no_input at told name old new halt.Memory r h e = subst (FindsInput at told name old new) (sym e) h
+pub finds_no_input : (tabs at : ℕ) (told : Told) (name : List ℕ) (old new : ℕ) (stop : Stop) (r : Result Loaded Stop) →
+    GivesInput tabs told name old new (Err stop) → r ≡ refused_input stop → FindsInput tabs at told name old new r
+finds_no_input tabs at told name old new (halt.Note s line) r h e =
+    subst (FindsInput tabs at told name old new) (sym e) (finds_refused tabs at told name old new s line h)
+finds_no_input tabs at told name old new halt.Memory r h e = subst (FindsInput tabs at told name old new) (sym e) h
 
 -- an error of the grammar that is passed on
 pub stops_passed : (old new : ShelfState) (job : Job) (kept : List Kept) (name : List ℕ) (r : Result Loaded Stop) (stop : Stop) →

@@ -1,5 +1,6 @@
 -- The main theorem, from the answer by cases.
 use Rattle.std.proofs.Common.{◌≡◌, ℕ, List, [], inl, inr, refl, ap, subst}
+use Rattle.ig_text.specs.Input.{Input}
 use Rattle.ig_outside.specs.States.{ShelfState, SinkState}
 use Rattle.ig_grammar.specs.declared.grammar.Grammar.{Grammar}
 use Rattle.ig_command_endings.specs.Change.{Change, FetchFailed, PutFailed}
@@ -35,7 +36,7 @@ same_parts (ask q) (list m) f t u v b c e = absurd (cc)
 
 -- the words ask for a job
 module _ (laws : Laws) (words : List (List ℕ)) (shelf : Change ShelfState) (grammar : Source) (input_name : List ℕ) (g : Grammar)
-    (input : List ℕ) (budget : ℕ) (job : Job)
+    (input : Input) (budget : ℕ) (job : Job)
     (asked : Asks words shelf.before (request_for job grammar input_name budget) g input) where
   abbrev request : Request
   request = request_for job grammar input_name budget
@@ -44,7 +45,7 @@ module _ (laws : Laws) (words : List (List ℕ)) (shelf : Change ShelfState) (gr
   of_one_sort r m command e =
       one_sort words r request m of_job command asked.command e (sort_of_job job grammar input_name budget)
 
-  module _ (f : Source) (t : List ℕ) (h : Grammar) (text : List ℕ) (b : ℕ) (i : Job)
+  module _ (f : Source) (t : List ℕ) (h : Grammar) (text : Input) (b : ℕ) (i : Job)
       (files : HasFiles words shelf.before (request_for i f t b) h text) where
     same_files : AreSame i job f t grammar input_name b budget
     same_files =
@@ -55,7 +56,7 @@ module _ (laws : Laws) (words : List (List ℕ)) (shelf : Change ShelfState) (gr
     moved s out note o =
         subst (λ (z : Job). Outcome g input budget z s out note) same_files.job
         (subst (λ (z : ℕ). Outcome g input z i s out note) same_files.budget
-        (subst (λ (z : List ℕ). Outcome g z b i s out note)
+        (subst (λ (z : Input). Outcome g z b i s out note)
         (same_input laws words shelf.before request g input asked (request_for i f t b) h text files)
         (subst (λ (z : Grammar). Outcome z text b i s out note)
         (same_grammar laws words shelf.before request g input asked (request_for i f t b) h text files) o)))

@@ -4,13 +4,15 @@ use Rattle.std.specs.Prelude.{option_map}
 use Rattle.std.specs.Option.{IsSomeAnd}
 use Rattle.std.proofs.lemmas.List.{map-append}
 use Rattle.std.proofs.lemmas.List.Elements.{All-contains, All-head, All-map, All-tail, All-weaker}
-use Rattle.std.proofs.lemmas.Option.{slice_get-map}
-use Rattle.ig_text.proofs.Lists.{contains_from_at, right_at}
+use Rattle.std.proofs.lemmas.Option.{slice_get-map, slice_get_within}
+use Rattle.ig_text.proofs.Lists.{contains_from_at, right_at, unmapped_at}
 use Rattle.ig_command.specs.declared.command.Notation.TheVariants.{Own}
 use Rattle.ig_grammar.specs.Checked.{CheckedGrammar}
+use Rattle.ig_grammar.specs.Tabs.{tab_width}
 use Rattle.ig_item.specs.Core.{dots}
 use Rattle.ig_item.specs.Limits.{most_dots}
 use Rattle.ig_core.specs.Lowered.{CoreOf, IsBuildable, IsNumbered}
+use Rattle.ig_core.specs.Notation.{unchanged}
 use Rattle.ig_command_endings.specs.Stops.{RefusesWith}
 use Rattle.ig_command_endings.specs.declared.stop.Stop.{Stop}
 use Rattle.ig_command_endings.specs.declared.stop.Stop.TheVariants as halt
@@ -74,6 +76,20 @@ found_at kept read xs ys at same as_read all there =
     by_option None e h = absurd h
     by_option (Some k) e h =
         is_at kept xs at k e (All-contains IsKept kept k all (contains_from_at kept at k e)) h
+
+-- there is one in the place that was found, and the width is that of its tabs
+pub is_within : (kept read : List Kept) (xs : List ℕ) (at : ℕ) → read ≡ kept → IsAt kept xs at → at < length read
+is_within kept read xs at same is =
+    let there = unmapped_at (λ (k : Kept). k.grammar) kept at (unchanged is.grammar) is.there in
+    subst (λ (z : List Kept). at < length z) (sym same) (slice_get_within kept at there.0 there.1)
+
+pub width_is : (kept read : List Kept) (xs : List ℕ) (at tabs : ℕ) → read ≡ kept → (is : IsAt kept xs at) →
+    IsSomeAnd (slice_get read at) (λ k. tabs ≡ tab_width k.grammar.grammar.tabs) → tabs ≡ tab_width is.grammar.tabs
+width_is kept read xs at tabs same is h =
+    let P : Option Kept → Type 0 = λ o. IsSomeAnd o (λ k. tabs ≡ tab_width k.grammar.grammar.tabs) in
+    let there = unmapped_at (λ (k : Kept). k.grammar) kept at (unchanged is.grammar) is.there in
+    let one = subst (λ (z : List Kept). P (slice_get z at)) same h in
+    subst P there.1 one ∙ ap (λ (z : CheckedGrammar). tab_width z.grammar.tabs) there.2
 
 -- the one that is added
 pub added_at : (old new : List Kept) (k : Kept) (xs : List ℕ) (at : ℕ) → new ≡ old ++ k ∷ [] → at ≡ length old → IsKept k →

@@ -13,5 +13,6 @@ pub mod CompletenessLaw
 pub mod GrammarLaw
 pub mod VerificationLaw
 pub mod LoadLaw
+pub mod Named
 pub mod Batching
 pub mod BatchLaw

@@ -3,6 +3,7 @@ use Rattle.std.proofs.Common.{◌≡◌, ℕ, suc, ◌+◌, List, All, map, refl
 use Rattle.std.specs.List.{AllZip}
 use Rattle.std.specs.Result.{IsErrAnd}
 use Rattle.std.proofs.lemmas.List.Elements.{All-cons, All-nil}
+use Rattle.ig_text.specs.Input.{Input}
 use Rattle.ig_text.proofs.Options.{one_value, passed_on}
 use Rattle.ig_outside.specs.States.{ShelfState}
 use Rattle.ig_outside.specs.Told.{Told}
@@ -62,7 +63,7 @@ module _ (holds : List ℕ → Told) (grammars : List CheckedGrammar) (budget : 
       let told = subst (λ (z : Question). EndsAs z end) asked is in
       rw (told.0, told.1, told.2) (ends.refused s note k h)
 
-  as_parsed : (input : List ℕ) (g : Grammar) (question : Question) (c : CheckedGrammar) → GivesFiles holds job g input →
+  as_parsed : (input : Input) (g : Grammar) (question : Question) (c : CheckedGrammar) → GivesFiles holds job g input →
       c ≡ unchanged g → question ≡ parses c.grammar input budget → EndsAs question end →
       JobEnds holds budget job end.status end.out end.note 2
   as_parsed input g question c files same asked is =

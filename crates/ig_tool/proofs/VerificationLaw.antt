@@ -1,5 +1,6 @@
 -- What is answered where a forest is to be checked, from the answer by cases.
 use Rattle.std.proofs.Common.{◌≡◌, ℕ, List, [], inl, inr, refl, ◌∙◌, ap, subst}
+use Rattle.ig_text.specs.Input.{Input}
 use Rattle.ig_outside.specs.States.{ShelfState, SinkState}
 use Rattle.ig_outside.specs.Told.{bytes}
 use Rattle.ig_grammar.specs.declared.grammar.Grammar.{Grammar}
@@ -21,7 +22,7 @@ same_text : (f : Source) (i n : List ℕ) (g : Source) (j m : List ℕ) → veri
 same_text f i n g j m e = cc
 
 module _ (laws : Laws) (words : List (List ℕ)) (shelf : Change ShelfState) (grammar : Source) (input_name name : List ℕ) (g : Grammar)
-    (input zs : List ℕ) (asked : Asks words shelf.before (verify grammar input_name name) g input)
+    (input : Input) (zs : List ℕ) (asked : Asks words shelf.before (verify grammar input_name name) g input)
     (held : shelf.before.holds name ≡ bytes zs) where
   abbrev request : Request
   request = verify grammar input_name name
@@ -76,10 +77,10 @@ module _ (laws : Laws) (words : List (List ℕ)) (shelf : Change ShelfState) (gr
       let told = told_text f i n files.command in absurd (cc)
   decided_check s out note k (answer.forest_unread f i n h text rose files) calm = absurd (calm rose)
   decided_check s out note k (answer.checked f i n h text ys u made line e files gives is passes) calm =
-      let P : Grammar → List ℕ → List ℕ → Type 0 =
+      let P : Grammar → Input → List ℕ → Type 0 =
       λ x y z. Verifies (unchanged x) y z s out note × PassesReduced (unchanged x) y z s in
       subst (λ (z : List ℕ). P g input z) (gives_held (shelf.before.holds n) zs ys (told_text f i n files.command) gives)
-      (subst (λ (z : List ℕ). P g z ys) (same_input laws words shelf.before request g input asked (verify f i n) h text files)
+      (subst (λ (z : Input). P g z ys) (same_input laws words shelf.before request g input asked (verify f i n) h text files)
       (subst (λ (z : Grammar). P z text ys) (same_grammar laws words shelf.before request g input asked (verify f i n) h text files)
       (is, passes)))
 
@@ -97,7 +98,7 @@ verification laws words shelf out notes s (no_memory k few count stood untouched
     inl (refl, untouched)
 
 -- under status 0 the text is the line
-done_line : (c : CheckedGrammar) (input zs : List ℕ) (s : Status) (out note : List ℕ) → Verifies c input zs s out note →
+done_line : (c : CheckedGrammar) (input : Input) (zs : List ℕ) (s : Status) (out note : List ℕ) → Verifies c input zs s out note →
     s ≡ status.Done → (out ≡ verified_text) × (note ≡ [])
 done_line c input zs s out note (too_long many) e = absurd (cc)
 done_line c input zs s out note (no_forest few none) e = absurd (cc)

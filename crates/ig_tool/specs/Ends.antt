@@ -1,5 +1,6 @@
 -- How jobs end: as each would by `forest` alone, with its files and the same budget.
 use Rattle.std.specs.Prelude.{ℕ, List, []}
+use Rattle.ig_text.specs.Input.{Input}
 use Rattle.ig_outside.specs.Told.{Told}
 use Rattle.ig_turns.specs.Lists.{Job}
 use Rattle.ig_grammar.specs.declared.grammar.Grammar.{Grammar}
@@ -15,7 +16,7 @@ pub data JobEnds (holds : List ℕ → Told) (budget : ℕ) (job : Job) : Status
   -- a file of it is refused
   refused : (s : Status) (note : List ℕ) (k : ℕ) → IsRefusedJob holds job s note k → JobEnds holds budget job s [] note k
   -- its grammar and its input have this outcome, where their forest is to be printed
-  parsed : (g : Grammar) (input : List ℕ) (s : Status) (out note : List ℕ) → GivesFiles holds job g input →
+  parsed : (g : Grammar) (input : Input) (s : Status) (out note : List ℕ) → GivesFiles holds job g input →
       Outcome g input budget print s out note → JobEnds holds budget job s out note 2
 
 -- the ends of jobs, in order, and how many files are fetched in all

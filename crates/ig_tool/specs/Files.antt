@@ -1,11 +1,13 @@
 -- What the files of jobs come to, by what the shelf tells of each name, and how many of them are fetched.
 use Rattle.std.specs.Prelude.{◌≡◌, ◌≢◌, ℕ, ◌+◌, List, ◌∷◌}
+use Rattle.ig_text.specs.Input.{Input}
 use Rattle.ig_text.specs.Decoding.{IsDecoded, IsFaulty}
 use Rattle.ig_text.specs.declared.text.TextFault.{TextFault}
 use Rattle.ig_text.specs.declared.text.TextFault.TheVariants as text_fault
 use Rattle.ig_outside.specs.Told.{Told, bytes}
 use Rattle.ig_command.specs.declared.command.Notation.TheVariants.{Own}
 use Rattle.ig_turns.specs.Lists.{Job}
+use Rattle.ig_grammar.specs.Tabs.{tab_width}
 use Rattle.ig_grammar.specs.declared.grammar.Grammar.{Grammar}
 use Rattle.ig_command_endings.specs.Notes.{grammar_note, input_note}
 use Rattle.ig_command_endings.specs.declared.status.Status.{Status}
@@ -14,14 +16,14 @@ use Rattle.ig_command_sources.specs.Accepted.{IsAccepted}
 use Rattle.ig_command_sources.specs.Refusals.{IsRefused}
 use Rattle.ig_command_sources.specs.Sources.{MayGive}
 
--- the files of the job may give this grammar, which is accepted, and this input
-pub record GivesFiles (holds : List ℕ → Told) (job : Job) (g : Grammar) (input : List ℕ) : Type 0 where
+-- the files of the job may give this grammar, which is accepted, and this input, with the width of tabs that the grammar says
+pub record GivesFiles (holds : List ℕ → Told) (job : Job) (g : Grammar) (input : Input) : Type 0 where
   pub grammar_bytes : List ℕ
   pub gives_grammar : MayGive (holds job.grammar) grammar_bytes
   pub accepted : IsAccepted Own grammar_bytes g
   pub input_bytes : List ℕ
   pub gives_input : MayGive (holds job.input) input_bytes
-  pub decoded : IsDecoded input_bytes input
+  pub decoded : IsDecoded (tab_width g.tabs) input_bytes input
 
 -- a file of the job is refused: its status, its line for notes, and how many files are fetched
 pub data IsRefusedJob (holds : List ℕ → Told) (job : Job) : Status → List ℕ → ℕ → Type 0 where
@@ -36,7 +38,7 @@ pub data IsRefusedJob (holds : List ℕ → Told) (job : Job) : Status → List 
 -- the files that the job wants were fetched, so many
 pub data JobLoads (holds : List ℕ → Told) (job : Job) : ℕ → Type 0 where
   refused : (s : Status) (note : List ℕ) (k : ℕ) → IsRefusedJob holds job s note k → JobLoads holds job k
-  given : (g : Grammar) (input : List ℕ) → GivesFiles holds job g input → JobLoads holds job 2
+  given : (g : Grammar) (input : Input) → GivesFiles holds job g input → JobLoads holds job 2
 
 -- the files of jobs are fetched in order up to the first of which that fails; its name, and how many are fetched
 pub data StopsAtFile (holds : List ℕ → Told) (Fails : Told → Type 0) : List Job → List ℕ → ℕ → Type 0 where

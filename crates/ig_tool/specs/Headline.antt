@@ -4,6 +4,8 @@ use Rattle.ig_text.specs.Decoding.{IsDecoded}
 use Rattle.ig_text.specs.Tree.{Tree}
 use Rattle.ig_outside.specs.States.{ShelfState, SinkState}
 use Rattle.ig_outside.specs.Told.{Told, bytes}
+use Rattle.ig_text.specs.Input.{Input}
+use Rattle.ig_grammar.specs.Tabs.{tab_width}
 use Rattle.ig_grammar.specs.declared.grammar.Grammar.{Grammar}
 use Rattle.ig_core.specs.Notation.{unchanged}
 use Rattle.ig_forest_tables.specs.Forest.{Forest}
@@ -32,8 +34,8 @@ use Rattle.ig_tool.specs.Files.{IsHeld}
 use Rattle.ig_tool.specs.Text.{End, batch_text}
 
 -- the words are the request, and the shelf tells that it holds its grammar and its input: the first is a text of the
--- grammar in the notation that they name, which is accepted, the second is the input
-pub record Asks (words : List (List ℕ)) (shelf : ShelfState) (request : Request) (g : Grammar) (input : List ℕ) : Type 0 where
+-- grammar in the notation that they name, which is accepted, the second is the input, with the width of tabs that the grammar says
+pub record Asks (words : List (List ℕ)) (shelf : ShelfState) (request : Request) (g : Grammar) (input : Input) : Type 0 where
   pub command : IsCommand words request
   pub grammar : Source
   pub names_grammar : grammar_file request ≡ Some grammar
@@ -44,10 +46,10 @@ pub record Asks (words : List (List ℕ)) (shelf : ShelfState) (request : Reques
   pub names_input : input_file request ≡ Some input_name
   pub input_bytes : List ℕ
   pub holds_input : shelf.holds input_name ≡ bytes input_bytes
-  pub decoded : IsDecoded input_bytes input
+  pub decoded : IsDecoded (tab_width g.tabs) input_bytes input
 
 -- the answer is the outcome; or memory ran out, and out got nothing
-abbrev pub Says : Grammar → List ℕ → ℕ → Job → Change SinkState → Change SinkState → Status → Type 0
+abbrev pub Says : Grammar → Input → ℕ → Job → Change SinkState → Change SinkState → Status → Type 0
 Says g input budget job out notes answer =
     ((answer ≡ status.NoMemory) × Untouched out) ⊎
     ((text : List ℕ) × ((note : List ℕ) × (Outcome g input budget job answer text note × Got out text × Got notes note)))
@@ -56,13 +58,13 @@ Says g input budget job out notes answer =
 -- outcome, or memory ran out
 abbrev pub Headline : List (List ℕ) → Change ShelfState → Change SinkState → Change SinkState → Status → Type 0
 Headline words shelf out notes answer =
-    (grammar : Source) (input_name : List ℕ) (g : Grammar) (input : List ℕ) (budget : ℕ) (job : Job) →
+    (grammar : Source) (input_name : List ℕ) (g : Grammar) (input : Input) (budget : ℕ) (job : Job) →
     Asks words shelf.before (request_for job grammar input_name budget) g input →
     (FetchFailed shelf → ⊥) → (PutFailed out → ⊥) → (PutFailed notes → ⊥) → Says g input budget job out notes answer
 
 -- a listing is lawful where a depth is given, or the permitted trees have a highest one, and where the word of the cursor, if
 -- there is one, is that of a permitted tree of at most that height; all else is
-abbrev pub IsLawful : CheckedGrammar → List ℕ → Job → Type 0
+abbrev pub IsLawful : CheckedGrammar → Input → Job → Type 0
 IsLawful c input print = Unit {0}
 IsLawful c input (list listing) =
     IsBounded c input listing.depth ×
@@ -70,7 +72,7 @@ IsLawful c input (list listing) =
 IsLawful c input (ask question) = Unit {0}
 
 -- out got the text that comes of the job by the forest
-pub record GotText (g : Grammar) (input : List ℕ) (budget : ℕ) (job : Job) (out notes : Change SinkState) : Type 0 where
+pub record GotText (g : Grammar) (input : Input) (budget : ℕ) (job : Job) (out notes : Change SinkState) : Type 0 where
   pub forest : Forest
   pub is : HasForest (unchanged g) input budget forest
   pub text : List ℕ
@@ -82,7 +84,7 @@ pub record GotText (g : Grammar) (input : List ℕ) (budget : ℕ) (job : Job) (
 -- ran out
 abbrev pub Completeness : List (List ℕ) → Change ShelfState → Change SinkState → Change SinkState → Status → Type 0
 Completeness words shelf out notes answer =
-    (grammar : Source) (input_name : List ℕ) (g : Grammar) (input : List ℕ) (budget : ℕ) (job : Job) →
+    (grammar : Source) (input_name : List ℕ) (g : Grammar) (input : Input) (budget : ℕ) (job : Job) →
     Asks words shelf.before (request_for job grammar input_name budget) g input →
     (FetchFailed shelf → ⊥) → (PutFailed out → ⊥) → (PutFailed notes → ⊥) → (IsOver (unchanged g) input budget → ⊥) →
     IsParsed (unchanged g) input → IsLawful (unchanged g) input job →
@@ -103,7 +105,7 @@ GrammarCommands words shelf out notes answer =
 -- nothing
 abbrev pub Verification : List (List ℕ) → Change ShelfState → Change SinkState → Change SinkState → Status → Type 0
 Verification words shelf out notes answer =
-    (grammar : Source) (input_name name : List ℕ) (g : Grammar) (input zs : List ℕ) →
+    (grammar : Source) (input_name name : List ℕ) (g : Grammar) (input : Input) (zs : List ℕ) →
     Asks words shelf.before (verify grammar input_name name) g input → shelf.before.holds name ≡ bytes zs →
     (FetchFailed shelf → ⊥) → (PutFailed out → ⊥) → (PutFailed notes → ⊥) →
     ((answer ≡ status.NoMemory) × Untouched out) ⊎
@@ -113,7 +115,7 @@ Verification words shelf out notes answer =
 -- with the line, or memory ran out
 abbrev pub Certification : List (List ℕ) → Change ShelfState → Change SinkState → Change SinkState → Status → Type 0
 Certification words shelf out notes answer =
-    (grammar : Source) (input_name name : List ℕ) (g : Grammar) (input zs : List ℕ) →
+    (grammar : Source) (input_name name : List ℕ) (g : Grammar) (input : Input) (zs : List ℕ) →
     Asks words shelf.before (verify grammar input_name name) g input → shelf.before.holds name ≡ bytes zs →
     (FetchFailed shelf → ⊥) → (PutFailed out → ⊥) → (PutFailed notes → ⊥) → length zs ≤ most_forest_bytes →
     IsReducedText (unchanged g) input zs →

@@ -8,3 +8,4 @@ pub mod Playing
 pub mod Outcome
 pub mod Decisions
 pub mod Headline
+pub mod Held

@@ -79,13 +79,13 @@ FindsGrammar kept told name old new (Ok (found.Refused s note)) =
     (new ≡ old) × ((xs : List ℕ) × MayGive told xs × IsNoGrammar Own xs s note.items)
 FindsGrammar kept told name old new (Err stop) = StopsFile told name old new RefusesNone stop
 
--- an input for the grammar of this place, or why it is refused
-abbrev pub FindsInput : ℕ → Told → List ℕ → ℕ → ℕ → Result Loaded Stop → Type 0
-FindsInput at told name old new (Ok (loaded.Accepted place input)) =
-    (new ≡ old) × (place ≡ at) × ((ys : List ℕ) × MayGive told ys × IsDecoded ys input)
-FindsInput at told name old new (Ok (loaded.Refused s note)) =
+-- an input with tabs of this width for the grammar of this place, or why it is refused
+abbrev pub FindsInput : ℕ → ℕ → Told → List ℕ → ℕ → ℕ → Result Loaded Stop → Type 0
+FindsInput tabs at told name old new (Ok (loaded.Accepted place input)) =
+    (new ≡ old) × (place ≡ at) × ((ys : List ℕ) × MayGive told ys × IsDecoded tabs ys input)
+FindsInput tabs at told name old new (Ok (loaded.Refused s note)) =
     (new ≡ old) × ((ys : List ℕ) × MayGive told ys × IsNoInput ys s note.items)
-FindsInput at told name old new (Err stop) = StopsFile told name old new RefusesNone stop
+FindsInput tabs at told name old new (Err stop) = StopsFile told name old new RefusesNone stop
 
 -- what was loaded of a job, with the place of its grammar among these, and how many files were fetched
 abbrev pub IsLoaded : (List ℕ → Told) → List CheckedGrammar → Job → Loaded → ℕ → Type 0

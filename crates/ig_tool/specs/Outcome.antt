@@ -1,10 +1,12 @@
 -- What the top call answers, by cases.
 use Rattle.std.specs.Prelude.{◌≡◌, ◌≢◌, ◌≤◌, ℕ, ◌+◌, zero, List, [], length, Some}
+use Rattle.ig_text.specs.Input.{Input}
 use Rattle.ig_text.specs.Decoding.{IsDecoded, IsFaulty}
 use Rattle.ig_text.specs.declared.text.TextFault.{TextFault}
 use Rattle.ig_text.specs.declared.text.TextFault.TheVariants as text_fault
 use Rattle.ig_outside.specs.Told.{nothing}
 use Rattle.ig_outside.specs.States.{ShelfState, SinkState}
+use Rattle.ig_grammar.specs.Tabs.{tab_width}
 use Rattle.ig_grammar.specs.declared.grammar.Grammar.{Grammar}
 use Rattle.ig_core.specs.Notation.{unchanged}
 use Rattle.ig_forest_tables.specs.Forest.{Forest}
@@ -39,19 +41,19 @@ pub record HasGrammar (shelf : ShelfState) (request : Request) (g : Grammar) : T
   pub gives : MayGive (shelf.holds file.name) bytes
   pub accepted : IsAccepted file.written bytes g
 
--- the file of the request's input may give it
-pub record HasInput (shelf : ShelfState) (request : Request) (input : List ℕ) : Type 0 where
+-- the file of the request's input may give it, with the width of tabs that the grammar says
+pub record HasInput (shelf : ShelfState) (request : Request) (g : Grammar) (input : Input) : Type 0 where
   pub name : List ℕ
   pub named : input_file request ≡ Some name
   pub bytes : List ℕ
   pub gives : MayGive (shelf.holds name) bytes
-  pub decoded : IsDecoded bytes input
+  pub decoded : IsDecoded (tab_width g.tabs) bytes input
 
 -- the words are the request, whose files may give the grammar, which is accepted, and the input
-pub record HasFiles (words : List (List ℕ)) (shelf : ShelfState) (request : Request) (g : Grammar) (input : List ℕ) : Type 0 where
+pub record HasFiles (words : List (List ℕ)) (shelf : ShelfState) (request : Request) (g : Grammar) (input : Input) : Type 0 where
   pub command : IsCommand words request
   pub of_grammar : HasGrammar shelf request g
-  pub of_input : HasInput shelf request input
+  pub of_input : HasInput shelf request g input
 
 -- the words ask for a batch, and the file of its list may give the text of these jobs
 pub record HasJobs (words : List (List ℕ)) (shelf : ShelfState) (list : List ℕ) (budget turn : ℕ) (jobs : List ListedJob) : Type 0 where
@@ -100,28 +102,28 @@ pub data Decided (words : List (List ℕ)) (shelf : Change ShelfState) : Status 
       MayGive (shelf.before.holds file) ys → IsFaulty ys fault → fault ≢ text_fault.Memory →
       Decided words shelf status.Input [] (input_note fault) 2
   -- more items than the budget are reachable
-  over_budget : (grammar : Source) (input_name : List ℕ) (g : Grammar) (input : List ℕ) (budget : ℕ) (job : Job) → IsCalm shelf →
+  over_budget : (grammar : Source) (input_name : List ℕ) (g : Grammar) (input : Input) (budget : ℕ) (job : Job) → IsCalm shelf →
       HasFiles words shelf.before (request_for job grammar input_name budget) g input →
       IsOver (unchanged g) input budget → Decided words shelf status.Budget [] (budget_note budget) 2
   -- the budget suffices, and no tree is permitted
-  no_parse : (grammar : Source) (input_name : List ℕ) (g : Grammar) (input : List ℕ) (budget : ℕ) (job : Job) (note : List ℕ) →
+  no_parse : (grammar : Source) (input_name : List ℕ) (g : Grammar) (input : Input) (budget : ℕ) (job : Job) (note : List ℕ) →
       IsCalm shelf → HasFiles words shelf.before (request_for job grammar input_name budget) g input →
       (IsOver (unchanged g) input budget → ⊥) → IsUnparsed (unchanged g) input → IsNoParseNote (unchanged g) input note →
       Decided words shelf status.NoParse [] note 2
   -- the budget suffices, a tree is permitted, and the forest says what comes of the job
-  parsed : (grammar : Source) (input_name : List ℕ) (g : Grammar) (input : List ℕ) (budget : ℕ) (job : Job) (f : Forest) (s : Status)
+  parsed : (grammar : Source) (input_name : List ℕ) (g : Grammar) (input : Input) (budget : ℕ) (job : Job) (f : Forest) (s : Status)
       (out note : List ℕ) → IsCalm shelf → HasFiles words shelf.before (request_for job grammar input_name budget) g input →
       HasForest (unchanged g) input budget f → Finishes (unchanged g) input f job s out note → Decided words shelf s out note 2
   -- a forest is to be checked, and nothing is held under the name of its text
-  forest_missing : (grammar : Source) (input_name file : List ℕ) (g : Grammar) (input : List ℕ) → IsCalm shelf →
+  forest_missing : (grammar : Source) (input_name file : List ℕ) (g : Grammar) (input : Input) → IsCalm shelf →
       HasFiles words shelf.before (verify grammar input_name file) g input → shelf.before.holds file ≡ nothing →
       Decided words shelf status.ReadFault [] (cannot_read_note file) 3
   -- the fetch of its text failed
-  forest_unread : (grammar : Source) (input_name file : List ℕ) (g : Grammar) (input : List ℕ) → FetchFailed shelf →
+  forest_unread : (grammar : Source) (input_name file : List ℕ) (g : Grammar) (input : Input) → FetchFailed shelf →
       HasFiles words shelf.before (verify grammar input_name file) g input →
       Decided words shelf status.ReadFault [] (cannot_read_note file) 3
   -- the forest was checked; the reduced one passes
-  checked : (grammar : Source) (input_name file : List ℕ) (g : Grammar) (input zs : List ℕ) (s : Status) (out note : List ℕ) →
+  checked : (grammar : Source) (input_name file : List ℕ) (g : Grammar) (input : Input) (zs : List ℕ) (s : Status) (out note : List ℕ) →
       IsCalm shelf → HasFiles words shelf.before (verify grammar input_name file) g input →
       MayGive (shelf.before.holds file) zs → Verifies (unchanged g) input zs s out note → PassesReduced (unchanged g) input zs s →
       Decided words shelf s out note 3

@@ -1,7 +1,9 @@
 //! The grammars of a batch, each read once.
-ghost use Rattle.std.specs.Prelude.{◌≡◌, ◌↔◌, ◌≤◌, ℕ, ◌++◌, ◌∷◌, [], List, All, MatchOption};
-ghost use Rattle.std.specs.Prelude.{IfOk, IsTrue, OnErr, OnOk, length, slice_get};
+ghost use Rattle.std.specs.Prelude.{◌≡◌, ◌↔◌, ◌<◌, ◌≤◌, ℕ, ◌++◌, ◌∷◌, [], List, All};
+ghost use Rattle.std.specs.Prelude.{IfOk, IsTrue, MatchOption, OnErr, OnOk, length, slice_get};
 ghost use Rattle.std.specs.Option.{IsSomeAnd};
+ghost use Rattle.ig_text.specs.Input.{IsTabWidth};
+ghost use Rattle.ig_grammar.specs.Tabs.{tab_width};
 ghost use Rattle.ig_notation_syntax.specs.Notation.{most_bytes};
 ghost use Rattle.ig_command_endings.specs.Change.{change, Fetched};
 ghost use Rattle.ig_tool.specs.Loading.{Accepts, FindsGrammar, Grows, IsKept, PlacesGrammar};
@@ -93,6 +95,16 @@ fn is_from(kept: &Kept, bytes: &[u8]) -> bool
     ensures { IsTrue result ↔ (kept.now.bytes.items ≡ bytes.now) }
 {
     kept.bytes.as_slice() == bytes
+}
+
+/// The width of tabs that the grammar in that place says.
+pub(crate) fn width_at(kept: &[Kept], at: usize) -> u32
+    requires { at < length kept.now }
+    ensures width { IsSomeAnd (slice_get kept.now at)
+        (λ k. result ≡ tab_width k.grammar.grammar.tabs) }
+    ensures allowed { IsTabWidth result }
+{
+    kept[at].grammar.tab_width()
 }
 
 /// The grammar that the bytes are the text of, with its core grammar; or the note that says why it

@@ -1,11 +1,12 @@
 //! Fetching and reading the files of jobs.
 ghost use Rattle.std.specs.Prelude.{◌≡◌, ℕ, ◌++◌, ◌∷◌, [], List, All, OnOk, map};
+ghost use Rattle.ig_text.specs.Input.{IsTabWidth};
 ghost use Rattle.ig_turns.specs.Reads.{stored_job};
 ghost use Rattle.ig_command_endings.specs.Change.{change, Fetched};
 ghost use Rattle.ig_tool.specs.Loading.{FindsInput, Grows, IsKept, LoadsJob, LoadsJobs};
 ghost use Rattle.ig_tool.specs.Loading.{refused_input};
 
-use crate::grammars::{Found, Kept, find_grammar};
+use crate::grammars::{Found, Kept, find_grammar, width_at};
 use ig_command_endings::{Status, Stop};
 use ig_command_sources::load_input;
 use ig_outside::Shelf;
@@ -72,19 +73,30 @@ fn load_job<F: Shelf>(
     ensures same { (n : List ℕ) → (F.state shelf.new).holds n ≡ (F.state shelf.old).holds n }
 {
     match find_grammar(alloc, shelf, kept, names.grammar.as_str())? {
-        Found::At(at) => find_input(alloc, shelf, at, names.input.as_str()),
+        Found::At(at) => {
+            let tabs = width_at(kept.as_slice(), at);
+            find_input(alloc, shelf, at, tabs, names.input.as_str())
+        }
         Found::Refused(status, line) => Ok(Loaded::Refused(status, line)),
     }
 }
 
-/// Loads the input in the file of that name, for the grammar of that place.
-fn find_input<F: Shelf>(alloc: Global, shelf: &mut F, at: usize, name: &str) -> Result<Loaded, Stop>
-    ensures answer { FindsInput at ((F.state shelf.old).holds name.now) name.now
+/// Loads the input in the file of that name, with tabs of this width, for the grammar of that
+/// place.
+fn find_input<F: Shelf>(
+    alloc: Global,
+    shelf: &mut F,
+    at: usize,
+    tabs: u32,
+    name: &str,
+) -> Result<Loaded, Stop>
+    requires { IsTabWidth tabs }
+    ensures answer { FindsInput tabs at ((F.state shelf.old).holds name.now) name.now
         (F.state shelf.old).faults (F.state shelf.new).faults result }
     ensures counted { Fetched (change (F.state shelf.old) (F.state shelf.new)) 1 }
     ensures same { (n : List ℕ) → (F.state shelf.new).holds n ≡ (F.state shelf.old).holds n }
 {
-    match load_input(alloc, shelf, name) {
+    match load_input(alloc, shelf, name, tabs) {
         Ok(input) => Ok(Loaded::Accepted(at, input)),
         Err(stop) => refused(stop),
     }

@@ -7,6 +7,7 @@ ghost use Rattle.ig_command_jobs.specs.Jobs.{request_for, stored_job, task_reque
 ghost use Rattle.ig_command_jobs.specs.Verifying.{IsTaken};
 ghost use Rattle.ig_tool.specs.Outcome.{Answers};
 ghost use Rattle.ig_tool.specs.Decisions.{Decides, RunsCheck, RunsJob};
+ghost use Rattle.ig_tool.specs.Held.{AnswersOutcome};
 ghost use Rattle.ig_tool.specs.Headline.{Completeness, GrammarCommands, Headline};
 ghost use Rattle.ig_tool.specs.Headline.{BatchCommands, Certification, LoadCommands, Verification};
 
@@ -77,6 +78,10 @@ pub fn iguana<F: Shelf, O: Sink, N: Sink>(
     notes: &mut N,
 ) -> Status
     ensures answer { Answers (map string_bytes words.now)
+        (change (F.state shelf.old) (F.state shelf.new))
+        (change (O.state out.old) (O.state out.new))
+        (change (N.state notes.old) (N.state notes.new)) result }
+    ensures outcome { AnswersOutcome (map string_bytes words.now)
         (change (F.state shelf.old) (F.state shelf.new))
         (change (O.state out.old) (O.state out.new))
         (change (N.state notes.old) (N.state notes.new)) result }
@@ -204,7 +209,7 @@ fn run<F: Shelf>(
     ensures counted { Fetched (change (F.state shelf.old) (F.state shelf.new)) 1 }
     ensures same { (n : List ℕ) → (F.state shelf.new).holds n ≡ (F.state shelf.old).holds n }
 {
-    let input = load_input(alloc, shelf, name)?;
+    let input = load_input(alloc, shelf, name, parser.tab_width())?;
     parse(alloc, parser, &input, budget, order, job)
 }
 
@@ -225,7 +230,7 @@ fn on_forest<F: Shelf>(
     read_grammars_are_buildable();
     let checked = load_grammar(alloc, shelf, files.grammar.name, files.grammar.notation)?;
     let parser = parser_of(alloc, &checked)?;
-    let input = load_input(alloc, shelf, files.input)?;
+    let input = load_input(alloc, shelf, files.input, parser.tab_width())?;
     check_forest(alloc, shelf, &parser, &input, name)
 }
 

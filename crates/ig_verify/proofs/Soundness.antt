@@ -2,6 +2,7 @@
 use Rattle.std.proofs.Common.{◌≡◌, ℕ, List, [], ◌∷◌, Some, length, slice_get, refl, sym, ap, ◌∙◌, subst, arith}
 use Rattle.std.proofs.lemmas.Option.{same_Some}
 use Rattle.std.proofs.lemmas.List.Elements.{All-contains}
+use Rattle.ig_text.specs.Input.{Input}
 use Rattle.ig_text.specs.Tree.{Tree, Trees, Leaf, Node, none, one, join}
 use Rattle.ig_text.proofs.Trees.{join-none}
 use Rattle.ig_text.proofs.Lists.{contains_from_at, get_within}
@@ -35,7 +36,7 @@ placed : (i : Instance) (a d e : ℕ) (us vs : List Value) (p q : ℕ) → d ≡
     item_at i a d us p ≡ item_at i a e vs q
 placed i a d e us vs p q h k m = cc
 
-module _ (core : List Nonterminal) (text : List ℕ) where
+module _ (core : List Nonterminal) (text : Input) where
   abbrev pub HasKeyTree : NodeKey → Tree → Type 0
   HasKeyTree key t = HasTree core text key.instance.nonterminal key.instance.values key.instance.start key.end t
 
@@ -103,7 +104,7 @@ module _ (core : List Nonterminal) (text : List ℕ) where
       placed (item_of it).instance it.alternative it.dot 0 it.env it.values it.position it.start dot is.unbound is.here in
       reached.begin (item_of it).instance it.alternative (item_of it) same
 
-module _ (trees : InstanceTrees) (core : List Nonterminal) (text : List ℕ) (f : Forest) (is : IsForest f)
+module _ (trees : InstanceTrees) (core : List Nonterminal) (text : Input) (f : Forest) (is : IsForest f)
     (s : IsSound core text f) where
   not_first : (it : ItemNode) (prev : ℕ) → forest.IsPrevious f it.dot prev → it.dot ≡ 0 → ⊥
   not_first it prev p e = omega (arith, p.behind, e)
@@ -173,5 +174,5 @@ sound_trees trees core text f d t is s u =
     let root = root_there f is in
     let whole : IsWhole text root.0 = (s.nodes f.root root.0 root.1).root refl in
     let has = node_trees trees core text f is s u.1 root.0 root.1 in
-    let same : key_of root.0 ≡ record { instance = record { nonterminal = 0; values = []; start = 0 }; end = length text } = cc in
+    let same : key_of root.0 ≡ record { instance = record { nonterminal = 0; values = []; start = 0 }; end = length text.characters } = cc in
     subst (λ (k : NodeKey). HasKeyTree core text k t) same has

@@ -1,11 +1,12 @@
 -- Which rule is the first broken one: the nodes come first, then rule 3 of all items, then the other rules of each item.
 use Rattle.std.specs.Prelude.{◌≡◌, ℕ, ◌<◌, List, Some, slice_get, true, false}
+use Rattle.ig_text.specs.Input.{Input}
 use Rattle.ig_item.specs.declared.core_grammar.Nonterminal.{Nonterminal}
 use Rattle.ig_forest_tables.specs.Forest.{Forest, Node, ItemNode}
 use Rattle.ig_verify.specs.Sound.{IsWhole, ChoicesFit, ItemFits, IsFirst, EntriesFollow, NodeHolds, EntriesHold}
 use Rattle.ig_verify.specs.declared.flaw.Flaw.{Flaw}
 
-module _ (core : List Nonterminal) (text : List ℕ) (f : Forest) where
+module _ (core : List Nonterminal) (text : Input) (f : Forest) where
   -- of the rules of a node, this one is the first broken one
   pub data NodeBreaks (v : ℕ) (node : Node) : ℕ → Type 0 where
     root : (rule : ℕ) → v ≡ f.root → (IsWhole text node → ⊥) → rule ≡ 1 → NodeBreaks v node rule

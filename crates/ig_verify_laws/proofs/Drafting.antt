@@ -2,6 +2,7 @@
 use Rattle.std.proofs.Common.{◌≡◌, ◌∙◌, ℕ, ◌<◌, ◌≤◌, ◌++◌, List, map, All, Contains, Some, length, slice_get, get_or, refl, sym, ap, subst, arith, lit<}
 use Rattle.std.proofs.lemmas.List.{length-map}
 use Rattle.std.proofs.lemmas.Option.{slice_get-get_or, slice_get_within}
+use Rattle.ig_text.specs.Input.{Input, KeepsLimits}
 use Rattle.ig_text.proofs.Lists.{at_from_contains, contains_from_at, mapped_at}
 use Rattle.ig_text.proofs.Pairwise.{partner, key_at, same_length}
 use Rattle.ig_text.specs.Limits.{numbers_end, most_characters}
@@ -56,16 +57,16 @@ key_by x = record { instance = x.instance; end = x.position }
 same_span : (s t : Span) → s.begin ≡ t.begin → s.end ≡ t.end → s ≡ t
 same_span s t e f = λ i. record { begin = e i; end = f i }
 
-module _ (given : Given) (core : List Nonterminal) (text : List ℕ) (w : IsWritable core)
-    (short : length text ≤ most_characters) (f : Forest) (r : IsReduced core text f) (few : length f.items < numbers_end) where
+module _ (given : Given) (core : List Nonterminal) (text : Input) (w : IsWritable core)
+    (short : KeepsLimits text) (f : Forest) (r : IsReduced core text f) (few : length f.items < numbers_end) where
   reachable : (x : Item) → Contains r.items x → Reachable core text x
   reachable x c = given.live core text x ((r.are_items.members x).0 c)
 
   reachable_at : (k : ℕ) (x : Item) → slice_get r.items k ≡ Some x → Reachable core text x
   reachable_at k x at = reachable x (contains_from_at r.items k x at)
 
-  place_small : (p : ℕ) → p ≤ length text → p < numbers_end
-  place_small p h = below p (length text) numbers_end h (below (length text) most_characters numbers_end short (lit< tt))
+  place_small : (p : ℕ) → p ≤ length text.characters → p < numbers_end
+  place_small p h = below p (length text.characters) numbers_end h (below (length text.characters) most_characters numbers_end short.few (lit< tt))
 
   start_small : (x : Item) → Reachable core text x → x.instance.start < numbers_end
   start_small x reach =

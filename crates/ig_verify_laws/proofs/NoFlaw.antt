@@ -1,5 +1,6 @@
 -- A sound forest has no flaw.
 use Rattle.std.proofs.Common.{ℕ, List, Some, None, refl}
+use Rattle.ig_text.specs.Input.{Input}
 use Rattle.ig_item.specs.declared.core_grammar.Nonterminal.{Nonterminal}
 use Rattle.ig_forest_tables.specs.Forest.{Forest, Node, ItemNode}
 use Rattle.ig_verify.specs.Flaws as flaws
@@ -8,7 +9,7 @@ use Rattle.ig_verify.specs.Sound.{IsSound, NodeHolds, EntriesHold}
 use Rattle.ig_verify.specs.declared.flaw.Flaw.{Flaw}
 use Rattle.ig_verify_laws.specs.ReducedLaws.{SoundHasNoFlaw}
 
-module _ (core : List Nonterminal) (text : List ℕ) (f : Forest) where
+module _ (core : List Nonterminal) (text : Input) (f : Forest) where
   node_whole : (v : ℕ) (node : Node) (rule : ℕ) → NodeHolds core text f v node → NodeBreaks core text f v node rule → ⊥
   node_whole v node rule holds (flaws.root _ is broken number) = broken (holds.root is)
   node_whole v node rule holds (flaws.choices _ root broken number) = broken holds.choices

@@ -1,5 +1,6 @@
 -- The integers of a grammar that is read fit, as the numbers of its tokens do.
 use Rattle.std.proofs.Common.{List, [], ◌∷◌, sym, subst}
+use Rattle.std.specs.Prelude.{Option, ℤ}
 use Rattle.std.proofs.lemmas.List.Elements.{All-head, All-tail}
 use Rattle.ig_expr.specs.Expression.{Expression}
 use Rattle.ig_grammar.specs.Symbol.{Symbol, Symbols, Alternatives}
@@ -11,7 +12,7 @@ use Rattle.ig_grammar.specs.declared.filter.Filter.{Filter}
 use Rattle.ig_grammar.specs.declared.grammar.Grammar.{Grammar}
 use Rattle.ig_notation_terms.specs.Limits.{NumberFits, NumbersFit}
 use Rattle.ig_notation_syntax.specs.Rules as rule
-use Rattle.ig_notation_syntax.specs.Rules.{IsSeparated, ReadsTerm, ReadsExpression, ReadsArguments, ReadsFilters, ReadsSign, ReadsSymbol, ReadsMarked, ReadsPost, ReadsAtom, ReadsAlternatives, ReadsAlternative, ReadsAssociativity, ReadsLevel, ReadsLevels, ReadsParameters, ReadsDeclaration, ReadsDeclarations, FollowsRules, filtered}
+use Rattle.ig_notation_syntax.specs.Rules.{IsSeparated, ReadsTerm, ReadsExpression, ReadsArguments, ReadsFilters, ReadsSign, ReadsSymbol, ReadsMarked, ReadsPost, ReadsAtom, ReadsAlternatives, ReadsAlternative, ReadsAssociativity, ReadsLevel, ReadsLevels, ReadsParameters, ReadsDeclaration, ReadsDeclarations, ReadsBody, FollowsRules, filtered}
 use Rattle.ig_notation_syntax.specs.Token.{Token}
 use Rattle.ig_verify_laws.specs.Ranges.{HasSmallIntegers}
 use Rattle.ig_verify_laws.proofs.Fitting.{AltsFit, ChoicesFit, DeclsFit, EachFits, Fits, LevelsFit, SymbolsFit, alts_fit}
@@ -135,9 +136,13 @@ declarations_fit rule.no_declaration h = tt
 declarations_fit (rule.further_declaration s m d ds e f) h =
     let p = declaration_fits e h in (p.0, declarations_fit f p.1)
 
+body_fits : {s : List Token} {tabs : Option ℤ} {ds : List Decl} → ReadsBody s tabs ds → Few s → DeclsFit ds
+body_fits (rule.with_tabs n s ds d) h = declarations_fit d h.1.1.1
+body_fits (rule.without_tabs s ds d) h = declarations_fit d h
+
 pub grammar_fits : {s : List Token} {g : Grammar} → FollowsRules s g → Few s → DeclsFit g.decls
-grammar_fits (rule.with_start x s ds d) h = declarations_fit d h.1.1.1
-grammar_fits (rule.without_start s ds d) h = declarations_fit d h
+grammar_fits (rule.with_start x s tabs ds d) h = body_fits d h.1.1.1
+grammar_fits (rule.without_start s tabs ds d) h = body_fits d h
 
 pub read_fits : {s : List Token} {g : Grammar} → FollowsRules s g → NumbersFit s → DeclsFit g.decls
 read_fits {s = s} d all = grammar_fits d (few s all)

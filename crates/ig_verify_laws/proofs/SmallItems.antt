@@ -3,6 +3,7 @@ use Rattle.std.proofs.Common.{◌≡◌, ◌∙◌, ℕ, zero, suc, ◌+◌, ◌
 use Rattle.std.specs.Prelude.{◌⊎◌}
 use Rattle.std.proofs.lemmas.List.Elements.{All-contains}
 use Rattle.std.proofs.lemmas.Option.{same_Some, slice_get-get_or}
+use Rattle.ig_text.specs.Input.{Input, KeepsLimits}
 use Rattle.ig_text.proofs.Lists.{contains_from_at, either_place, mapped_at, unmapped_at}
 use Rattle.ig_text.specs.Limits.{numbers_end, most_characters}
 use Rattle.ig_expr.specs.Evaluation.{value_of}
@@ -43,7 +44,7 @@ both_small vs bound small more k v e =
     go (inl at) = small k v at
     go (inr at) = more at.0 v at.1
 
-module _ (given : Given) (core : List Nonterminal) (text : List ℕ) (short : length text ≤ most_characters)
+module _ (given : Given) (core : List Nonterminal) (text : Input) (short : KeepsLimits text)
     (fit : IntegersFit core) where
   -- the item is reachable, and its values are small
   record Small (x : Item) : Type 0 where
@@ -51,16 +52,16 @@ module _ (given : Given) (core : List Nonterminal) (text : List ℕ) (short : le
     values : AreSmall x.instance.values
     env : AreSmall x.env
 
-  here : (x : Item) → Reachable core text x → x.position ≤ length text
+  here : (x : Item) → Reachable core text x → x.position ≤ length text.characters
   here x r = (given.in_text core text x r).within
 
-  place_small : (p : ℕ) → p ≤ length text → p < numbers_end
-  place_small p h = below p (length text) numbers_end h short (lit< tt)
+  place_small : (p : ℕ) → p ≤ length text.characters → p < numbers_end
+  place_small p h = below p (length text.characters) numbers_end h short.few (lit< tt)
     where
       below : (a b c : ℕ) → a ≤ b → b ≤ most_characters → most_characters < c → a < c
       below a b c h k l = omega (arith, h, k, l)
 
-  label_small : (label : Option (List ℕ)) (i j : ℕ) → i ≤ length text → j ≤ length text → AreSmall (span_of label i j)
+  label_small : (label : Option (List ℕ)) (i j : ℕ) → i ≤ length text.characters → j ≤ length text.characters → AreSmall (span_of label i j)
   label_small None i j h k = none_small
   label_small (Some name) i j h k =
       one_small (value.Span (record { begin = i; end = j })) (record { begin = place_small i h; end = place_small j k })
@@ -103,7 +104,7 @@ module _ (given : Given) (core : List Nonterminal) (text : List ℕ) (short : le
   env_labelled : (it x : Item) (label : Option (List ℕ)) (j : ℕ) → Small it → Reachable core text x →
       x ≡ past it (span_of label it.position j) j → AreSmall x.env
   env_labelled it x label j s r e =
-      let to : j ≤ length text = subst (λ (z : ℕ). z ≤ length text) (ap (λ (y : Item). y.position) e) (here x r) in
+      let to : j ≤ length text.characters = subst (λ (z : ℕ). z ≤ length text.characters) (ap (λ (y : Item). y.position) e) (here x r) in
       env_past it x (span_of label it.position j) j s e (label_small label it.position j (here it s.reachable) to)
 
   env_next : {x : Item} → Reachable core text x → Follows core text Small x → AreSmall x.env

@@ -1,6 +1,7 @@
 -- The reduced forest is sound.
 use Rattle.std.proofs.Common.{◌≡◌, ℕ, suc, List, All, Contains, Some, slice_get, get_or, refl, sym, ap, ◌∙◌, subst, arith}
 use Rattle.std.proofs.lemmas.Option.{same_Some, slice_get-get_or}
+use Rattle.ig_text.specs.Input.{Input}
 use Rattle.ig_text.proofs.Lists.{contains_from_at}
 use Rattle.ig_text.proofs.Pairwise.{partner, key_at}
 use Rattle.ig_text.specs.Tree.{Trees}
@@ -27,7 +28,7 @@ use Rattle.ig_verify_laws.specs.ReducedLaws.{ReducedIsSound}
 each_member : {X : Type 0} (P : X → Type 0) (xs : List X) → ((x : X) → Contains xs x → P x) → All P xs
 each_member P xs h k d lt = h (get_or xs k d) (contains_from_at xs k (get_or xs k d) (slice_get-get_or xs k d lt))
 
-module _ (core : List Nonterminal) (text : List ℕ) where
+module _ (core : List Nonterminal) (text : Input) where
   previous_reachable : {known : Item → Type 0} {prev x : Item} {taken : Taken} → Gives core text known prev taken x → known prev
   previous_reachable (rules.test prev names e x k before holds is) = k
   previous_reachable (rules.bind prev names name e v x k before has is) = k
@@ -79,7 +80,7 @@ same_key key node a b c d =
     λ i. record { instance = record { nonterminal = sym a i; values = sym b i; start = sym c i }; end = sym d i }
 
 module _ (fit : EnvironmentsFit) (in_text : ItemsAreInText) (by_trees : ItemsByTrees) (core : List Nonterminal)
-    (text : List ℕ) (well : IsWellKinded core) (f : Forest) (r : IsReduced core text f) (is : IsForest f) where
+    (text : Input) (well : IsWellKinded core) (f : Forest) (r : IsReduced core text f) (is : IsForest f) where
   reachable_at : (k : ℕ) (x : Item) → slice_get r.items k ≡ Some x → Reachable core text x
   reachable_at k x at = live_reachable core text x ((r.are_items.members x).0 (contains_from_at r.items k x at))
 

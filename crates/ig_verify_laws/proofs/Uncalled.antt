@@ -2,6 +2,7 @@
 use Rattle.std.proofs.Common.{◌≡◌, ◌∙◌, ℕ, List, length, refl, sym, ap, arith}
 use Rattle.std.proofs.lemmas.List.Elements.{All-contains}
 use Rattle.std.proofs.lemmas.Option.{slice_get_within}
+use Rattle.ig_text.specs.Input.{Input}
 use Rattle.ig_text.proofs.Lists.{contains_from_at}
 use Rattle.ig_item.specs.Gives as rules
 use Rattle.ig_item.specs.Gives.{NodeKey, Taken, leaf, tree}
@@ -15,7 +16,7 @@ use Rattle.ig_forest_live.specs.Live as live
 use Rattle.ig_forest_live.specs.Live.{Gives, IsLive}
 use Rattle.ig_verify_laws.specs.Ranges.{IsNoCallOfRoot, RootIsUncalled}
 
-module _ (core : List Nonterminal) (text : List ℕ) (uncalled : RootIsUncalled core) where
+module _ (core : List Nonterminal) (text : Input) (uncalled : RootIsUncalled core) where
   step_uncalled : (it : Item) (names : List (List ℕ)) (step : Step) → StandsBefore core it names step → IsNoCallOfRoot step
   step_uncalled it names step b =
       All-contains IsNoCallOfRoot b.alternative.steps step
@@ -75,7 +76,7 @@ module _ (core : List Nonterminal) (text : List ℕ) (uncalled : RootIsUncalled 
         omega (arith, within, last)
 
     pub root_at_end : (x : Item) → IsLive core text x → x.instance.nonterminal ≡ 0 → IsComplete core x →
-        x.position ≡ length text
+        x.position ≡ length text.characters
     root_at_end _ (live.root x reachable root end) zero complete = end
     root_at_end _ (live.previous x prev taken l gives) zero complete =
         let s = stands gives in absurd (incomplete prev s.0 s.1 s.2 complete)

@@ -1,5 +1,5 @@
 -- The values of expressions fit 64 bits, and their spans are small.
-use Rattle.std.proofs.Common.{◌≡◌, ℕ, zero, suc, ◌+◌, ◌<◌, ◌≤◌, List, [], ◌∷◌, Bool, true, false, Option, Some, None, cond, ltb, ◌-◌, ℤ, pos, negsuc, ◌+ℤ◌, ◌-ℤ◌, ◌*ℤ◌, neg_ℤ, if◌then◌else◌, length, slice_get, take, All, refl, sym, subst, arith, lit<}
+use Rattle.std.proofs.Common.{◌≡◌, ℕ, zero, suc, ◌+◌, ◌<◌, ◌≤◌, List, [], ◌∷◌, Bool, true, false, Option, Some, None, cond, ltb, ◌-◌, ℤ, pos, negsuc, ◌+ℤ◌, ◌-ℤ◌, ◌*ℤ◌, neg_ℤ, if◌then◌else◌, length, slice_get, take, All, refl, sym, subst, arith, lit<, ◌*◌}
 use Rattle.std.specs.Prelude.{nat_le, option_and_then, option_map, int_div, int_rem, int_lt}
 use Rattle.std.specs.Int.{int_max}
 use Rattle.std.specs.Int.Signed.{mag, mag_rem}
@@ -9,9 +9,12 @@ use Rattle.std.proofs.lemmas.Bool.{ltb-true}
 use Rattle.std.proofs.lemmas.List.Elements.{All-contains}
 use Rattle.std.proofs.lemmas.List.Sums.{count_by-le-length}
 use Rattle.std.proofs.lemmas.Option.{same_Some}
+use Rattle.std.proofs.lemmas.Bool.Decides.{nat_tests}
+use Rattle.ig_text.proofs.StopTable.{column_few}
+use Rattle.ig_text.specs.Input.{Input, KeepsLimits}
 use Rattle.ig_text.proofs.Lists.{contains_from_at}
-use Rattle.ig_text.specs.Lines.{column_at, column_of, line_of, since_line_feed, is_line_feed}
-use Rattle.ig_text.specs.Limits.{numbers_end, integers_end, most_characters}
+use Rattle.ig_text.specs.Lines.{column_at, column_of, line_of, is_line_feed}
+use Rattle.ig_text.specs.Limits.{numbers_end, integers_end, most_characters, most_tabs}
 use Rattle.ig_text.specs.Words.{is_digit}
 use Rattle.ig_text.specs.declared.text.Span.{Span}
 use Rattle.ig_expr.specs.Blocks.{outer, outer_by, inside, inside_by}
@@ -165,48 +168,38 @@ take_few zero xs = omega arith
 take_few (suc p) [] = omega arith
 take_few (suc p) (x ∷ xs) = let few = take_few p xs in omega (arith, few)
 
-either_few : (b : Bool) (x y m : ℕ) → x ≤ m → y ≤ m → (if b then x else y) ≤ m
-either_few true x y m h k = h
-either_few false x y m h k = k
-
 either_mag : (b : Bool) (x y : ℤ) (m : ℕ) → mag x < m → mag y < m → mag (if b then x else y) < m
 either_mag true x y m h k = h
 either_mag false x y m h k = k
 
-module _ (text : List ℕ) (short : length text ≤ most_characters) where
-  in_text : (n : ℕ) → n ≤ length text + 1 → n < integers_end
-  in_text n h = le_lt n (length text + 1) integers_end h (lt_lt (length text + 1) 1048578 integers_end (omega (arith, short)) (lit< tt))
+module _ (text : Input) (short : KeepsLimits text) where
+  in_text : (n : ℕ) → n ≤ length text.characters + 1 → n < integers_end
+  in_text n h = le_lt n (length text.characters + 1) integers_end h (lt_lt (length text.characters + 1) 1048578 integers_end (omega (arith, short.few)) (lit< tt))
 
-  some_column : (b : Bool) (c : ℕ) → c ≤ length text + 1 → FitsIn (if b then Some (pos c) else None)
-  some_column true c h = fits_some (pos c) (in_text c h)
-  some_column false c h = λ n e. absurd (cc)
-
-  since_few : (n : ℕ) (cs : List ℕ) → since_line_feed n cs ≤ n + length cs
-  since_few n [] = omega arith
-  since_few n (c ∷ cs) =
-      let line = since_few 0 cs in
-      let on = since_few (n + 1) cs in
-      either_few (is_line_feed c) (since_line_feed 0 cs) (since_line_feed (n + 1) cs) (n + suc (length cs))
-      (omega (arith, line)) (omega (arith, on))
-
-  column_few : (p : ℕ) → column_of text p ≤ length text + 1
-  column_few p = let few = since_few 0 (take p text) in let part = take_few p text in omega (arith, few, part)
+  -- a column is small, since a tab goes on over few of them
+  wide_column : (b : Bool) (p : ℕ) → nat_le p (length text.characters) ≡ b → FitsIn (if b then Some (pos (column_of text p)) else None)
+  wide_column true p e =
+      let within : p ≤ length text.characters = grind (arith, nat_tests) in
+      let few = column_few text p short.width within in
+      fits_some (pos (column_of text p))
+      (le_lt (column_of text p) (most_tabs * most_characters + 1) integers_end (omega (arith, few, short.few)) (lit< tt))
+  wide_column false p e = λ n f. absurd (cc)
 
   column_fits : (p : ℤ) → FitsIn (column_at text p)
-  column_fits (pos p) = some_column (nat_le p (length text)) (column_of text p) (column_few p)
+  column_fits (pos p) = wide_column (nat_le p (length text.characters)) p refl
   column_fits (negsuc zero) = fits_some (pos 0) (lit< tt)
   column_fits (negsuc (suc n)) = λ m e. absurd (cc)
 
-  line_few : (p : ℕ) → line_of text p ≤ length text + 1
+  line_few : (p : ℕ) → line_of text p ≤ length text.characters + 1
   line_few p =
-      let few = count_by-le-length is_line_feed (take p text) in let part = take_few p text in omega (arith, few, part)
+      let few = count_by-le-length is_line_feed (take p text.characters) in let part = take_few p text.characters in omega (arith, few, part)
 
-  some_line : (b : Bool) (c : ℕ) → c ≤ length text + 1 → FitsIn (option_map pos (if b then Some c else None))
+  some_line : (b : Bool) (c : ℕ) → c ≤ length text.characters + 1 → FitsIn (option_map pos (if b then Some c else None))
   some_line true c h = fits_some (pos c) (in_text c h)
   some_line false c h = λ n e. absurd (cc)
 
   line_fits : (p : ℤ) → FitsIn (line_from text p)
-  line_fits (pos p) = some_line (nat_le p (length text)) (line_of text p) (line_few p)
+  line_fits (pos p) = some_line (nat_le p (length text.characters)) (line_of text p) (line_few p)
   line_fits (negsuc n) = λ m e. absurd (cc)
 
   read_integer_small : (f : Function) (p : ℤ) → IsSmallIn (read_integer text f p)
@@ -255,7 +248,7 @@ module _ (text : List ℕ) (short : length text ≤ most_characters) where
   inside_small here (value.Int a) (value.Int b) = inside_by_small (column_at text (pos here)) (column_at text b) here a b
   inside_small here a b = none_small
 
-  module _ (names : List (List ℕ)) (env : List Value) (here : ℕ) (within : here ≤ length text) (small : AreSmall env) where
+  module _ (names : List (List ℕ)) (env : List Value) (here : ℕ) (within : here ≤ length text.characters) (small : AreSmall env) where
     looked_up_small : (o : Option ℕ) → IsSmallIn (option_and_then (slice_get env) o)
     looked_up_small None = none_small
     looked_up_small (Some k) = small k

@@ -1,6 +1,7 @@
 -- What forests are as certificates, for a grammar that is accepted.
-use Rattle.std.specs.Prelude.{◌≡◌, ℕ, ◌<◌, ◌≤◌, List, length, Option, Some, None, MatchOption}
-use Rattle.ig_text.specs.Limits.{numbers_end, most_characters}
+use Rattle.std.specs.Prelude.{◌≡◌, ℕ, ◌<◌, List, length, Option, Some, None, MatchOption}
+use Rattle.ig_text.specs.Input.{Input, KeepsLimits}
+use Rattle.ig_text.specs.Limits.{numbers_end}
 use Rattle.ig_text.specs.Tree.{Tree}
 use Rattle.ig_command.specs.declared.command.Notation.{Notation}
 use Rattle.ig_grammar.specs.Numbering.{as_written}
@@ -26,11 +27,11 @@ Reads core bytes None = (f : Forest) → IsDraftOf core f → bytes ≡ forest_t
 Reads core bytes (Some f) = IsDraftOf core f × (bytes ≡ forest_text f)
 
 -- what is told of a forest by its rules: that all hold, or the first broken one
-abbrev pub Verifies : List Nonterminal → List ℕ → Forest → Option Flaw → Type 0
+abbrev pub Verifies : List Nonterminal → Input → Forest → Option Flaw → Type 0
 Verifies core text f flaw = MatchOption flaw (IsSound core text f) (IsFirstFlaw core text f)
 
 -- the text of the forest is read as that forest, and nothing else, and the forest is verified
-pub record IsCertified (core : List Nonterminal) (text : List ℕ) (f : Forest) : Type 0 where
+pub record IsCertified (core : List Nonterminal) (text : Input) (f : Forest) : Type 0 where
   pub told : TellsNames core
   pub draft : IsDraftOf core f
   pub sound : IsSound core text f
@@ -44,12 +45,12 @@ ReadCoresTellNames = (n : Notation) (bytes : List ℕ) (g : Grammar) → IsAccep
 -- so it is with the reduced forest of an accepted grammar and an input, where it has few items
 abbrev pub ReducedIsCertified : Type 0
 ReducedIsCertified =
-    (n : Notation) (bytes : List ℕ) (g : Grammar) (text : List ℕ) (f : Forest) → IsAccepted n bytes g →
-    IsWellKinded (CoreOf (unchanged g)) → length text ≤ most_characters →
+    (n : Notation) (bytes : List ℕ) (g : Grammar) (text : Input) (f : Forest) → IsAccepted n bytes g →
+    IsWellKinded (CoreOf (unchanged g)) → KeepsLimits text →
     IsReduced (CoreOf (unchanged g)) text f → length f.items < numbers_end → IsCertified (CoreOf (unchanged g)) text f
 
 -- each tree of a sound forest, at each depth, is one that the grammar permits
 abbrev pub VerifiedIsPermitted : Type 0
 VerifiedIsPermitted =
-    (n : Notation) (bytes : List ℕ) (g : Grammar) (text : List ℕ) (f : Forest) (d : ℕ) (t : Tree) → IsTextOf n bytes g →
+    (n : Notation) (bytes : List ℕ) (g : Grammar) (text : Input) (f : Forest) (d : ℕ) (t : Tree) → IsTextOf n bytes g →
     IsForest f → IsSound (CoreOf (unchanged g)) text f → Unfolds f d t → Permitted g (as_written g) text t

@@ -29,8 +29,9 @@ pub fn alternatives_are_few()
     ensures { AlternativesAreFew }
 {}
 
-/// In a text of at most 1,048,576 characters the value of an expression whose integers fit 64 bits
-/// fits 64 bits, where those of its variables do; and so do spans 32. This law computes nothing.
+/// In a text of at most 1,048,576 characters, with tabs of a width from 1 to 16, the value of an
+/// expression whose integers fit 64 bits fits 64 bits, where those of its variables do; and so do
+/// spans 32. This law computes nothing.
 pub fn values_are_small()
     ensures { ValuesAreSmall }
 {}

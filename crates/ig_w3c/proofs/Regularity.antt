@@ -133,7 +133,7 @@ few_characters few_of source g utf8 read =
     let most : length source ≤ most_bytes = read.are_tokens.bytes in
     omega arith
 
-with_start : (most : ℕ) (g : Grammar) → HasFewerThan most (record { start = None; decls = g.decls }) → HasFewerThan most g
+with_start : (most : ℕ) (g : Grammar) → HasFewerThan most (record { start = None; tabs = None; decls = g.decls }) → HasFewerThan most g
 with_start most g h =
     record { declarations = h.declarations; levels = h.levels; alternatives = h.alternatives; symbols = h.symbols }
 
@@ -146,5 +146,5 @@ read_regular few_of forms declarations regular counted source g utf8 read =
     let all = few_own ts (least_of read.tokens) one (omega (arith, two)) in (
       regular (in_own_notation ts) g read.reads.reading (texts _ ts (forms 0 (chars source) read.tokens read.are_tokens.lexed)) (omega arith),
       with_start (suc most_bytes) g
-          (counted (declared ts) (record { start = None; decls = g.decls }) (suc most_bytes) (declarations ts g read.reads) (omega arith)),
+          (counted (declared ts) (record { start = None; tabs = None; decls = g.decls }) (suc most_bytes) (declarations ts g read.reads) (omega arith)),
     )

@@ -1,6 +1,7 @@
 //! Codes, strings and sets.
 
-ghost use Rattle.std.specs.Prelude.{◌≡◌, ◌<◌, ◌^◌, ◌∷◌, ◌++◌, [], ℕ, suc, OnOk, string_bytes, flat_map};
+ghost use Rattle.std.specs.Prelude.{◌≡◌, ◌<◌, ◌^◌, ◌∷◌, ◌++◌, [], ℕ, suc};
+ghost use Rattle.std.specs.Prelude.{OnOk, string_bytes, flat_map};
 ghost use Rattle.ig_show.specs.Appending.{Appends};
 ghost use Rattle.ig_text.specs.declared.class.Class.TheVariants as class;
 ghost use Rattle.ig_w3c.specs.Text.{digit, digits_within, code_text, has_quote, between};
@@ -65,7 +66,8 @@ fn push_between(out: &mut String, quote: char, word: &Word) -> Result<(), AllocE
 
 /// Adds a string: between two `"`, or between two `'` where the word has a `"`.
 pub(crate) fn push_quoted(out: &mut String, word: &Word) -> Result<(), AllocError>
-    ensures { OnOk result (Appends (string_bytes out.old) (string_bytes out.new) (quoted word.now)) }
+    ensures { OnOk result (Appends (string_bytes out.old) (string_bytes out.new)
+        (quoted word.now)) }
 {
     if has_quote(word.as_chars()) {
         push_between(out, '\'', word)

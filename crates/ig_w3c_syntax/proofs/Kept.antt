@@ -113,20 +113,23 @@ rules_read (next_rule x s m a more) =
 pub kept_rules_read : KeptRulesRead
 kept_rules_read tokens (rules x s r) =
     let ds = rules_read r in (
-      record { start = Some x; decls = ds.0 },
-      record { keeps = rules x s r; reading = reads.with_start x (declared (Head x ∷ s)) ds.0 ds.1 },
+      record { start = Some x; tabs = None; decls = ds.0 },
+      record {
+        keeps = rules x s r;
+        reading = reads.with_start x (declared (Head x ∷ s)) None ds.0 (reads.without_tabs (declared (Head x ∷ s)) ds.0 ds.1);
+      },
     )
 
 -- the same declarations without the start line
 kept_declarations : (tokens : List Token) (k : KeepsRules tokens) →
-    FollowsRules (declared tokens) (record { start = None; decls = (kept_rules_read tokens k).0.decls })
+    FollowsRules (declared tokens) (record { start = None; tabs = None; decls = (kept_rules_read tokens k).0.decls })
 unfolding rules_read kept_rules_read
-kept_declarations _ (rules x s r) = let ds = rules_read r in reads.without_start (declared (Head x ∷ s)) ds.0 ds.1
+kept_declarations _ (rules x s r) = let ds = rules_read r in reads.without_start (declared (Head x ∷ s)) None ds.0 (reads.without_tabs (declared (Head x ∷ s)) ds.0 ds.1)
 
 pub declarations_read : OneReading → DeclarationsRead
 declarations_read one tokens g r =
     let k = kept_rules_read tokens r.keeps in
-    subst (λ (z : Grammar). FollowsRules (declared tokens) (record { start = None; decls = z.decls })) (one tokens k.0 g k.1 r)
+    subst (λ (z : Grammar). FollowsRules (declared tokens) (record { start = None; tabs = None; decls = z.decls })) (one tokens k.0 g k.1 r)
     (kept_declarations tokens r.keeps)
 
 -- Which forms the grammars have that tokens read as.
@@ -200,11 +203,11 @@ rules_form (next_rule x s m a more) h =
     form.next_rule _ (rules_read more).0 d (rules_form more ys.1)
 
 -- the first rule is the start
-started : {d : Decl} {ds : List Decl} → form.AreRules (d ∷ ds) → form.IsOfRules (record { start = Some d.name; decls = d ∷ ds })
+started : {d : Decl} {ds : List Decl} → form.AreRules (d ∷ ds) → form.IsOfRules (record { start = Some d.name; tabs = None; decls = d ∷ ds })
 started {d} {ds} h = form.rules d ds h
 
 first_rule : (x : List ℕ) (s : List Token) (r : AreRules (Head x ∷ s)) → AreWhole (Head x ∷ s) →
-    form.IsOfRules (record { start = Some x; decls = (rules_read r).0 })
+    form.IsOfRules (record { start = Some x; tabs = None; decls = (rules_read r).0 })
 unfolding rules_read
 first_rule x s (next_rule _ _ m a more) h = started (rules_form (next_rule x s m a more) h)
 

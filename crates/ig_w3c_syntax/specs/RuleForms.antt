@@ -1,5 +1,5 @@
 -- The forms of grammars that texts of the notation read as.
-use Rattle.std.specs.Prelude.{◌≡◌, ℕ, List, [], ◌∷◌, true, Some}
+use Rattle.std.specs.Prelude.{◌≡◌, ℕ, List, [], ◌∷◌, true, Some, None}
 use Rattle.ig_text.specs.declared.class.Class.{Class}
 use Rattle.ig_text.specs.declared.pattern.Pattern.TheVariants as patterns
 use Rattle.ig_grammar.specs.Name.{is_name}
@@ -65,4 +65,4 @@ pub data AreRules : List Decl → Type 0 where
 
 -- there is at least one, and the first is the start
 pub data IsOfRules : Grammar → Type 0 where
-  rules : (d : Decl) (ds : List Decl) → AreRules (d ∷ ds) → IsOfRules (record { start = Some d.name; decls = d ∷ ds })
+  rules : (d : Decl) (ds : List Decl) → AreRules (d ∷ ds) → IsOfRules (record { start = Some d.name; tabs = None; decls = d ∷ ds })

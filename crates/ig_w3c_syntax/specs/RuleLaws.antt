@@ -36,4 +36,4 @@ ReadsHaveForms = (tokens : List Token) (g : Grammar) → ReadsAs tokens g → Al
 -- the rules that tokens read as are declarations of the own notation, which read without the start line too
 abbrev pub DeclarationsRead : Type 0
 DeclarationsRead =
-    (tokens : List Token) (g : Grammar) → ReadsAs tokens g → FollowsRules (declared tokens) (record { start = None; decls = g.decls })
+    (tokens : List Token) (g : Grammar) → ReadsAs tokens g → FollowsRules (declared tokens) (record { start = None; tabs = None; decls = g.decls })

@@ -153,8 +153,8 @@ fn part(text: &str) -> Option<((char, char), &str)>
     if a <= b { Some(((a, b), rest)) } else { None }
 }
 
-/// The parts of a set at the front, and what stands behind the `]` that follows them; `None` exactly
-/// where no such parts stand there.
+/// The parts of a set at the front, and what stands after the `]` that follows them; `None`
+/// exactly where no such parts stand there.
 fn parts(alloc: Global, text: &str) -> Result<Option<(Vec<(char, char)>, &str)>, AllocError>
     ensures { IfOk result (λ r. MatchOption r (NoParts (chars text.now)) (λ p. HasParts
         (chars text.now) p.0.items p.1.now)) }

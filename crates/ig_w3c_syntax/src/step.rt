@@ -1,6 +1,7 @@
 //! What stands first in a text.
 
-ghost use Rattle.std.specs.Prelude.{◌≡◌, ◌∷◌, IfOk, MatchOption, chars, true, false, option_map, ◌==◌};
+ghost use Rattle.std.specs.Prelude.{◌≡◌, ◌∷◌, IfOk, MatchOption, chars};
+ghost use Rattle.std.specs.Prelude.{true, false, option_map, ◌==◌};
 ghost use Rattle.std.specs.Map.{lookup};
 ghost use Rattle.ig_notation_syntax.specs.Spelling.{is_one_of};
 ghost use Rattle.ig_w3c_syntax.specs.Spelling.{signs, quotes};

@@ -34,8 +34,8 @@ pub fn tokens_have_forms()
     ensures { TokensHaveForms }
 {}
 
-/// A token that stands first is the longest that does; a name, where no `::=` stands behind it. This
-/// law, proved of every text, computes nothing.
+/// A token that stands first is the longest that does; a name, where no `::=` stands after it.
+/// This law, proved of every text, computes nothing.
 pub fn standing_tokens_are_longest()
     ensures { StandingTokensAreLongest }
 {}

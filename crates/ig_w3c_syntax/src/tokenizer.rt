@@ -39,7 +39,8 @@ pub fn tokenize<'a>(alloc: Global, source: &'a str) -> Result<Vec<Placed<'a>>, T
 
 /// Adds a token at the end.
 fn add<'a>(tokens: &mut Vec<Placed<'a>>, token: Token<'a>, at: u32) -> Result<(), AllocError>
-    ensures ok { OnOk result (tokens.new.items ≡ tokens.old.items ++ (record { token = token.entry; at = at }) ∷ []) }
+    ensures ok { OnOk result (tokens.new.items ≡ tokens.old.items ++
+        (record { token = token.entry; at = at }) ∷ []) }
 {
     match tokens.push(Placed { token, at }) {
         Ok(()) => Ok(()),

@@ -4,14 +4,14 @@ if exists('b:current_syntax')
   finish
 endif
 
-syntax keyword iguanaDeclaration start syntax lexical layout
+syntax keyword iguanaDeclaration start tabs syntax lexical layout
 syntax keyword iguanaAssociativity left right nonassoc
 syntax keyword iguanaMark offside ignore align
 syntax keyword iguanaBinding when let
 syntax keyword iguanaWordOperator and or not div mod
 syntax keyword iguanaConstant true false here
 syntax keyword iguanaKind int bool span
-syntax keyword iguanaReserved tabs return
+syntax keyword iguanaReserved return
 
 " The head of a declaration, labels, functions.
 syntax match iguanaHead /\%(\<\%(start\|syntax\|lexical\|layout\)\_s\+\)\@<=\K\k*/

@@ -1,5 +1,4 @@
-use Rattle.std.proofs.Common.{ℕ, ◌≤◌, List, subst, sym, ◌∙◌}
-use Rattle.ig_text.specs.Limits.{most_characters}
+use Rattle.std.proofs.Common.{List, subst, sym, ◌∙◌}
 use Rattle.ig_item.specs.declared.core_grammar.Nonterminal.{Nonterminal}
 use Rattle.ig_forest_reader.specs.Written.{IsDraftOf, TellsNames}
 use Rattle.ig_command_jobs.specs.Verifying.{VerifiesDraft}
@@ -17,7 +16,7 @@ returns-in-Err-NotAForest c =
       taken = c.requires.taken;
       few = c.requires.few;
       well = rw c.core-core.ensures at c.nonterminals-nonterminals.ensures.well_kinded;
-      characters = subst (λ (z : ℕ). z ≤ most_characters) c.len-characters.ensures.length c.len-characters.ensures.limit;
+      limits = c.len-characters.ensures.limits;
       certified = c.reduced_forests_are_certified.ensures;
       permitted = c.verified_trees_are_permitted.ensures;
     })
@@ -33,7 +32,7 @@ returns c =
       taken = c.requires.taken;
       few = c.requires.few;
       well = rw c.core-core.ensures at c.nonterminals-nonterminals.ensures.well_kinded;
-      characters = subst (λ (z : ℕ). z ≤ most_characters) c.len-characters.ensures.length c.len-characters.ensures.limit;
+      limits = c.len-characters.ensures.limits;
       certified = c.reduced_forests_are_certified.ensures;
       permitted = c.verified_trees_are_permitted.ensures;
     })

@@ -4,14 +4,14 @@ use Rattle.ig_command_sources.proofs.load.load_input.Goals as goal
 
 pub returns-in-Ok-clause-answer : goal.returns-in-Ok-clause-answer
 returns-in-Ok-clause-answer g c =
-    input_given _ c.args.name.now c.as_slice.result.now _ _ _ c.in-Ok.bytes c.read_input.result c.in-Ok.ensures.answer
+    input_given c.args.tabs _ c.args.name.now c.as_slice.result.now _ _ _ c.in-Ok.bytes c.read_input.result c.in-Ok.ensures.answer
     c.in-Ok.ensures.cause c.as_slice.ensures.value c.read_input.ensures
 
 pub returns-in-Err-Long-clause-answer : goal.returns-in-Err-Long-clause-answer
 returns-in-Err-Long-clause-answer g c =
     let answer = rw c.in-Err-Long.field-0-is at c.in-Err-Long.ensures.answer in
     let cause = rw c.in-Err-Long.field-0-is at c.in-Err-Long.ensures.cause in
-    input_long _ c.args.name.now _ _ c.too_long.result answer cause c.too_long.ensures
+    input_long c.args.tabs _ c.args.name.now _ _ c.too_long.result answer cause c.too_long.ensures
 
 pub returns-in-Err-Failed-clause-answer : goal.returns-in-Err-Failed-clause-answer
 returns-in-Err-Failed-clause-answer g c =

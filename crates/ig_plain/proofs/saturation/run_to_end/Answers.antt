@@ -29,14 +29,14 @@ take_all-requires-in-loop-before-clause-trail c =
 
 pub returns-clause-run : goal.returns-clause-run
 returns-clause-run c =
-    let e : c.loop-before.before ≡ length c.args.context.now.text.now =
+    let e : c.loop-before.before ≡ length c.args.context.now.text.now.characters =
     omega (arith, c.loop-before-test.false, c.loop-before.auto.before-end, c.last_position-before-end.ensures) in
     subst (λ z. IsRun c.args.context.now.core.now c.args.context.now.text.now c.args.context.now.budget z (length c.loop-before.run.found.here.items) c.loop-before.run.found c.loop-before.run.waiting) e
     c.loop-before.invariant.run
 
 pub returns-clause-trail : goal.returns-clause-trail
 returns-clause-trail c =
-    let e : c.loop-before.before ≡ length c.args.context.now.text.now =
+    let e : c.loop-before.before ≡ length c.args.context.now.text.now.characters =
     omega (arith, c.loop-before-test.false, c.loop-before.auto.before-end, c.last_position-before-end.ensures) in
     subst
     (λ z. HasTrail c.args.context.now.core.now c.args.context.now.text.now z (length c.loop-before.run.found.here.items) c.loop-before.run.found c.loop-before.run.waiting c.loop-before.run.trail)

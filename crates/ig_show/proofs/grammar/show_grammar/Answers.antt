@@ -9,4 +9,6 @@ pub returns : goal.returns
 returns c =
     rw c.into_bytes.ensures.value
     (written c.new-out.ensures.bytes (IsUtf8-string_bytes c.push_declarations.new.out)
-    (adds c.in_ok-push_start.ensures (shown_as (separated [] declaration_pieces) c.as_slice.ensures c.in_ok-push_declarations.ensures)))
+    (adds c.in_ok-push_start.ensures
+    (adds c.in_ok-push_tabs.ensures
+    (shown_as (separated [] declaration_pieces) c.as_slice.ensures c.in_ok-push_declarations.ensures))))

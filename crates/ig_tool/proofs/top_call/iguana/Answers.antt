@@ -5,12 +5,16 @@ use Rattle.ig_tool.proofs.Asked.{given}
 use Rattle.ig_tool.proofs.GrammarLaw.{grammar_commands}
 use Rattle.ig_tool.proofs.HeadlineLaw.{headline}
 use Rattle.ig_tool.proofs.LoadLaw.{load_commands}
+use Rattle.ig_tool.proofs.Named.{answers_outcome}
 use Rattle.ig_tool.proofs.VerificationLaw.{certification, verification}
 use Rattle.ig_tool.proofs.top_call.iguana.Goals as goal
 
 pub returns-clause-answer : goal.returns-clause-answer
 returns-clause-answer g c =
     answers_end _ _ _ _ c.decide-decided.result c.end.result c.decide-decided.ensures.answer c.end.ensures
+
+pub returns-clause-outcome : goal.returns-clause-outcome
+returns-clause-outcome g c = answers_outcome _ _ _ _ _ (returns-clause-answer g c)
 
 pub returns-clause-headline : goal.returns-clause-headline
 returns-clause-headline g c =

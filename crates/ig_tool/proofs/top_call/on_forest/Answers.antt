@@ -40,14 +40,14 @@ returns-in_err-input-clause-answer g c = λ words command.
     subst (Decides words _) (sym (passed_on c.from_residual-in_err-input.result c.in_err-input.field-0.0 c.from_residual-in_err-input.ensures.1))
     (decides_at_input words (stored_source c.args.files.grammar) c.args.files.input.now c.args.name.now command _ _ c.in_ok-checked.checked
     c.in_ok-parser.parser c.in_ok-checked.ensures.counted c.in_ok-checked.ensures.same c.in_ok-checked.ensures.answer
-    c.in_ok-parser.ensures _ c.in_err-input.ensures.counted c.in_err-input.field-0.0 c.in_err-input.ensures.answer)
+    c.in_ok-parser.ensures _ c.in_err-input.ensures.counted c.tab_width.result c.in_err-input.field-0.0 c.in_err-input.ensures.answer)
 
 pub returns-clause-answer : goal.returns-clause-answer
 returns-clause-answer g c = λ words command.
     decides_check words (stored_source c.args.files.grammar) c.args.files.input.now c.args.name.now command _ _ c.in_ok-checked.checked
     c.in_ok-parser.parser c.in_ok-checked.ensures.counted c.in_ok-checked.ensures.same c.in_ok-checked.ensures.answer
     c.in_ok-parser.ensures _ c.in_ok-input.ensures.counted _ c.in_ok-input.input c.in_ok-input.ensures.same
-    c.in_ok-input.ensures.answer c.check_forest.ensures.counted c.check_forest.result c.check_forest.ensures.answer
+    c.tab_width.result c.tab_width.ensures.width c.in_ok-input.ensures.answer c.check_forest.ensures.counted c.check_forest.result c.check_forest.ensures.answer
 
 pub returns-in_err-checked-clause-same : goal.returns-in_err-checked-clause-same
 returns-in_err-checked-clause-same g c = c.in_err-checked.ensures.same

@@ -11,10 +11,10 @@ returns-in_err-input-clause-answer g c =
     let shelf = change (g.F.Shelf.state c.args.shelf.now) (g.F.Shelf.state c.load_input.new.shelf) in
     subst (RunsJob c.args.parser.now c.args.budget (stored_job c.args.job) shelf c.args.name.now)
     (sym (passed_on c.from_residual.result c.in_err-input.field-0.0 c.from_residual.ensures.1))
-    (runs_at_input c.args.parser.now c.args.budget (stored_job c.args.job) shelf c.args.name.now c.in_err-input.field-0.0 c.in_err-input.ensures.answer)
+    (runs_at_input c.args.parser.now c.args.budget (stored_job c.args.job) shelf c.args.name.now c.tab_width.result c.in_err-input.field-0.0 c.in_err-input.ensures.answer)
 
 pub returns-clause-answer : goal.returns-clause-answer
 returns-clause-answer g c =
     let shelf = change (g.F.Shelf.state c.args.shelf.now) (g.F.Shelf.state c.load_input.new.shelf) in
-    runs_parse c.args.parser.now c.args.budget (stored_job c.args.job) shelf c.args.name.now c.in_ok-input.input c.parse.result
+    runs_parse c.args.parser.now c.args.budget (stored_job c.args.job) shelf c.args.name.now c.tab_width.result c.tab_width.ensures.width c.in_ok-input.input c.parse.result
     c.in_ok-input.ensures.answer c.parse.ensures

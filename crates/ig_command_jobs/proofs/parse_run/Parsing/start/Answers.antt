@@ -1,4 +1,4 @@
-use Rattle.std.proofs.Common.{◌≡◌, ◌∙◌, List, subst, rules}
+use Rattle.std.proofs.Common.{◌∙◌, List, subst, rules}
 use Rattle.ig_item.specs.Items.{MoreThan}
 use Rattle.ig_item.specs.declared.core_grammar.Nonterminal.{Nonterminal}
 use Rattle.ig_command_jobs.proofs.Events.{begins, unbegun}

@@ -1,4 +1,4 @@
-use Rattle.std.proofs.Common.{◌<◌, inr, arith, subst, length, List, ℕ}
+use Rattle.std.proofs.Common.{◌<◌, inr, arith, refl, subst, length, List, ℕ}
 use Rattle.ig_text.specs.Limits.{most_characters}
 use Rattle.ig_text.proofs.text.Text.of_str.Goals as goal
 
@@ -12,6 +12,7 @@ returns-clause-text c =
     record {
       utf8 = c.utf8.text;
       characters = c.in_ok-characters.ensures;
+      tabs = refl;
       few_bytes = c.requires;
       few_characters = omega arith;
     }
