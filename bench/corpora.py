@@ -2,15 +2,14 @@
 """Runs the program on files that people wrote: corpora [--quick] [--program PATH] [--language NAME]..
 
 Each language has a grammar in examples/ and files of Debian packages, which are fetched into a folder of the cache (by
-apt-get, from the archives that this machine uses) and never into this repository. A file is copied under the limits of
-a text; tabs of Haskell are expanded to columns of 8, since that is what they mean there. For each file `forest` and
-`query` are run. Prints a table in Markdown: files, characters, items of the forest a character, processor seconds and
-megabytes of memory a million characters, and how many files have one tree, more, none, or more reachable items than
-the budget. What has none or more is listed with the note, or the first ambiguous node. `--quick` takes the smaller
-files alone, for two minutes in all; `--plot FILE` draws time over size, a point for each file. `--peers` runs other
-parsers on the same files, as far as they are installed, and prints a second table: how many files each permits, its
-processor seconds for a million characters without its start, the seconds of its start, and its peak memory over all
-files in one run.
+apt-get, from the archives that this machine uses) and never into this repository. A file is copied as it is, under the
+limits of a text. For each file `forest` and `query` are run. Prints a table in Markdown: files, lines, characters, items
+of the forest a character, processor seconds and megabytes of memory a million characters, and how many files have one
+tree, more, none, or more reachable items than the budget. What has none or more is listed with the note, or the first
+ambiguous node. `--quick` takes the smaller files alone, for two minutes in all; `--plot FILE` draws time over size, a
+point for each file. `--peers` runs other parsers on the same files, as far as they are installed, and prints a second
+table: how many files each permits, its processor seconds for a million characters without its start, the seconds of its
+start, and its peak memory over all files in one run.
 """
 
 import argparse
@@ -35,11 +34,10 @@ BUDGET = 4_000_000
 SECONDS = 300
 QUICK_CHARACTERS = 12_000
 QUICK_FILES = 12
-TAB = 8
 
 Found = collections.namedtuple("Found", "name text")
 Ran = collections.namedtuple("Ran", "status out note seconds megabytes")
-Result = collections.namedtuple("Result", "name characters trees items seconds megabytes note")
+Result = collections.namedtuple("Result", "name lines characters trees items seconds megabytes note")
 
 
 # Fetching packages.
@@ -136,8 +134,7 @@ HASKELL_SOURCES = ("alex", "cpphs", "happy", "haskell-hunit", "haskell-polyparse
 def haskell_files():
     """Programs and libraries that need no preprocessor."""
     for package in HASKELL_SOURCES:
-        for found in texts(source_package(package), ".hs", lambda text: not text.startswith("#") and "\n#" not in text):
-            yield Found(found.name, found.text.expandtabs(TAB))
+        yield from texts(source_package(package), ".hs", lambda text: not text.startswith("#") and "\n#" not in text)
 
 
 def python_files():
@@ -206,14 +203,15 @@ def measure(program, grammar, found, room):
     with open(path, "w", encoding="utf-8", newline="") as file:
         file.write(found.text)
     words = [*grammar[1:], os.path.join(HERE, grammar[0]), path, "--budget", str(BUDGET)]
+    size = (found.text.count("\n"), len(found.text))
     forest = run([program, "forest", *words])
     if forest.status != 0:
         kind = {1: "none", 5: "budget"}.get(forest.status, "failed")
-        return Result(found.name, len(found.text), kind, 0, forest.seconds, forest.megabytes, forest.note)
+        return Result(found.name, *size, kind, 0, forest.seconds, forest.megabytes, forest.note)
     items = int(forest.out.split(b"\n", 1)[0].split()[2])
     answer = run([program, "query", *words]).out.decode("utf-8", "replace").split("\n")
     trees, note = ("one", "") if answer[0] == "ambiguous no" else ("more", answer[1] if len(answer) > 1 else "")
-    return Result(found.name, len(found.text), trees, items, forest.seconds, forest.megabytes, note)
+    return Result(found.name, *size, trees, items, forest.seconds, forest.megabytes, note)
 
 
 def chosen(files, quick):
@@ -231,14 +229,14 @@ def chosen(files, quick):
 def row(language, results):
     counts = collections.Counter(result.trees for result in results)
     parsed = [result for result in results if result.trees in ("one", "more")]
-    characters = sum(result.characters for result in results)
+    lines, characters = sum(result.lines for result in results), sum(result.characters for result in results)
     millions = sum(result.characters for result in parsed) / 1e6 or 1
     large = [result for result in parsed if result.characters >= 10_000] or parsed
     memory = sum(result.megabytes for result in large) / (sum(result.characters for result in large) / 1e6 or 1)
     items = sum(result.items for result in parsed) / (millions * 1e6)
     seconds = sum(result.seconds for result in parsed) / millions
     return (
-        f"| {language} | {len(results)} | {characters:,} | {items:.1f} | {seconds:.1f} | {memory:,.0f} "
+        f"| {language} | {len(results)} | {lines:,} | {characters:,} | {items:.1f} | {seconds:.1f} | {memory:,.0f} "
         f"| {counts['one']} | {counts['more']} | {counts['none']} | {counts['budget']} |"
     )
 
@@ -285,8 +283,8 @@ def main():
     parser.add_argument("--plot", metavar="FILE", help="an SVG of time over size")
     given = parser.parse_args()
     os.makedirs(CACHE, exist_ok=True)
-    print("| | Files | Characters | Items a character | Seconds a million | MB a million | One tree | More | None | Budget |")
-    print("|---|---|---|---|---|---|---|---|---|---|")
+    print("| | Files | Lines | Characters | Items a character | Seconds a million | MB a million | One tree | More | None | Budget |")
+    print("|---|---|---|---|---|---|---|---|---|---|---|")
     all_results, others, beside = {}, [], []
     with tempfile.TemporaryDirectory() as room:
         for language in given.language or LANGUAGES:

@@ -61,7 +61,7 @@ Exponent = EMPTY | e Sign Digits
 Sign = EMPTY | sign
 """
 
-# examples/json/grammar.ig as plain rules: layout stands before the first token and behind each one.
+# examples/json/grammar.ig as plain rules: layout stands before the first token and after each one.
 JSON_OF_THE_RFC = r"""
 J = W Value
 W = EMPTY | W blank

@@ -1,6 +1,7 @@
 // Haskell 2010: modules, declarations, expressions, patterns and types, with its layout rule; and what many programs
 // use beside it: `forall`, classes of several types, `\case`, a block as the last argument, `a ~ b`, bang patterns.
 start Module;
+tabs 8;
 
 // A block is in braces, or its items begin in one column: `align`. What belongs to an item stands to the
 // right of where that begins: `offside`. In braces columns don't count: `ignore`.
@@ -224,9 +225,9 @@ lexical Escape
         | "SI" | "DLE" | "DC1" | "DC2" | "DC3" | "DC4" | "NAK" | "SYN" | "ETB" | "CAN" | "EM" | "SUB" | "ESC" | "FS" | "GS"
         | "RS" | "US" | "SP" | "DEL");
 
-// Blanks and comments, of which those in brackets nest; tabs have no width here.
+// Blanks, tabs and comments, of which those in brackets nest.
 layout Layout = Blanks (Comment Blanks)* !>> "{-" !>> "--\n" !>> "-- " !>> "--|" !>> "---";
-lexical Blanks = [ \n\r]* !>> [ \n\r];
+lexical Blanks = [ \n\r\t]* !>> [ \n\r\t];
 lexical Comment
     = "--" Dash* ([a-zA-Z0-9 \t"'(),;\[\]`{}_] [^\n]*)? !>> [^\n]
     | "{-" Inside* "-}";

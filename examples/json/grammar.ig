@@ -3,7 +3,7 @@
 // A grammar begins with the symbol that the whole input has to be.
 start Value;
 
-// A `syntax` declaration lists alternatives. Behind each of its tokens (a literal in quotes, or a
+// A `syntax` declaration lists alternatives. After each of its tokens (a literal in quotes, or a
 // call of a `lexical` name) comes one layout, declared at the end: no blank is written here.
 syntax Value = Object | Array | String | Number | "true" | "false" | "null";
 
@@ -28,6 +28,6 @@ lexical Whole = "0" | [1-9] [0-9]*;
 lexical Fraction = "." [0-9]+;
 lexical Exponent = [Ee] [+\-]? [0-9]+;
 
-// What stands behind each token, and before the first one. `!>>` asks that none of these characters
+// What stands after each token, and before the first one. `!>>` asks that none of these characters
 // follows, so it is always as long as it can be.
 layout Space = [ \t\n\r]* !>> [ \t\n\r];

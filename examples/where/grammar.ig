@@ -10,7 +10,7 @@ syntax Definition = Name Name* "=" Expression Where?;
 syntax Where = "where" !>> [a-zA-Z0-9_'] align (offside Definition)+;
 
 // The levels of operators, the one that binds tightest first. `f x y` is a function and what it is
-// given: one name, number or bracket behind another.
+// given: one name, number or bracket after another.
 syntax Expression
     = Operand+
     > left Expression "*" Expression

@@ -27,7 +27,7 @@ lexical AttValue = "\"" ([\t\n\r !#-%'-;=-퟿-�𐀀-􏿿] | Reference)* "\"
 // 2: the characters U+0009, U+000A, U+000D, U+0020 to U+D7FF, U+E000 to U+FFFD and U+10000 to U+10FFFF. The
 // classes below that begin with a tab have these characters but the signs that the recommendation names.
 // 3 CHANGED: blanks go as far as they can. By the recommendation alone they are one S or several in Misc* and in
-// intSubset, and the blanks behind the target of an instruction begin its text or not.
+// intSubset, and the blanks after the target of an instruction begin its text or not.
 lexical S = [ \t\r\n]+ !>> [ \t\r\n];
 
 // 4, 4a, 5. NameStartChar has U+200C to U+200D, U+2070 to U+218F, U+2C00 to U+2FEF, U+3001 to U+D7FF, U+F900 to
@@ -37,7 +37,7 @@ lexical NameChar = [\-.0-9:A-Z_a-z·À-ÖØ-öø-ͽͿ-῿‌‍‿⁀⁰-↏Ⰰ-
 lexical Name = NameStartChar NameChar*;
 
 // 14 CHANGED: text is as long as it can be, and not empty, since each use of it is optional. It has no `]]>`: a
-// `>` doesn't stand behind `]]`.
+// `>` doesn't stand after `]]`.
 lexical CharData = ([\t\n\r -%'-;=?-퟿-�𐀀-􏿿] | ">" !<< "]]")+ !>> [\t\n\r -%'-;=-퟿-�𐀀-􏿿];
 
 // 15

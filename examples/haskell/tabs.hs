@@ -1,0 +1,3 @@
+f x = case x of
+	1 -> a
+        2 -> b
