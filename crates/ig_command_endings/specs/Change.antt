@@ -1,8 +1,10 @@
 -- What a call did outside: the states of the shelf and of a sink before it and after it.
-use Rattle.std.specs.Prelude.{◌≡◌, ℕ, zero, suc, ◌⊎◌, List, Option, take}
+use Rattle.std.specs.Prelude.{◌≡◌, ℕ, zero, suc, ◌⊎◌, List, ◌++◌, All, Option, drop, length, take}
 use Rattle.ig_outside.specs.Counts.{Rose, risen}
 use Rattle.std.specs.Io.KnownBytes.{Appends}
+use Rattle.ig_outside.specs.Fetch.{Agrees, Given}
 use Rattle.ig_outside.specs.States.{ShelfState, SinkState}
+use Rattle.ig_outside.specs.Told.{Told}
 
 pub record Change (S : Type 0) : Type 0 where
   pub before : S
@@ -19,6 +21,29 @@ raised (suc k) n = raised k (risen n)
 -- so many files were fetched
 abbrev pub Fetched : Change ShelfState → ℕ → Type 0
 Fetched shelf k = shelf.after.fetches ≡ raised k shelf.before.fetches
+
+-- what the fetches of the call gave, in order
+abbrev pub given_by : Change ShelfState → List Given
+given_by shelf = drop (length shelf.before.given) shelf.after.given
+
+-- a shelf that tells this of the names may have given that
+abbrev pub MayTell : (List ℕ → Told) → Change ShelfState → Type 0
+MayTell told shelf = All (Agrees told) (given_by shelf)
+
+-- the state, with this in place of what the shelf tells
+abbrev pub telling : (List ℕ → Told) → ShelfState → ShelfState
+telling told s = record { holds = told; faults = s.faults; fetches = s.fetches; given = s.given }
+
+-- what is said of a call holds by what its fetches gave: whatever the names hold, where that agrees with each fetch
+abbrev pub ByFetches : (Change ShelfState → Type 0) → Change ShelfState → Type 0
+ByFetches Says shelf =
+    (told : List ℕ → Told) → MayTell told shelf → Says (change (telling told shelf.before) (telling told shelf.after))
+
+-- the call only fetched: what was given before is still recorded, the shelf gave what it tells, and it tells the same
+pub record OnlyFetches (shelf : Change ShelfState) : Type 0 where
+  pub recorded : shelf.after.given ≡ shelf.before.given ++ given_by shelf
+  pub as_told : MayTell shelf.before.holds shelf
+  pub same : (name : List ℕ) → shelf.after.holds name ≡ shelf.before.holds name
 
 -- no fetch failed
 abbrev pub IsCalm : Change ShelfState → Type 0

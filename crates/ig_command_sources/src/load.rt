@@ -1,8 +1,8 @@
 //! Fetching and reading the files of a command.
-ghost use Rattle.std.specs.Prelude.{◌≡◌, ◌≤◌, ℕ, List, IfOk, length, vec_len};
+ghost use Rattle.std.specs.Prelude.{◌≤◌, IfOk, length, vec_len};
 ghost use Rattle.ig_turns.specs.Lists.{most_jobs};
 ghost use Rattle.ig_text.specs.Input.{IsTabWidth};
-ghost use Rattle.ig_command_endings.specs.Change.{change, Fetched};
+ghost use Rattle.ig_command_endings.specs.Change.{change, ByFetches, Fetched, OnlyFetches};
 ghost use Rattle.ig_command_sources.specs.Sources.{LoadsForest, LoadsGrammar, LoadsGrammarText};
 ghost use Rattle.ig_command_sources.specs.Sources.{LoadsInput, LoadsList, ReadsInput, ReadsList};
 ghost use Rattle.ig_command_sources.specs.Sources.{most_list_bytes};
@@ -35,10 +35,10 @@ pub fn load_grammar<F: Shelf>(
     name: &str,
     notation: Notation,
 ) -> Result<Checked, Stop>
-    ensures answer { LoadsGrammar notation (change (F.state shelf.old) (F.state shelf.new))
-        name.now result }
+    ensures answer { ByFetches (λ call. LoadsGrammar notation call name.now result)
+        (change (F.state shelf.old) (F.state shelf.new)) }
     ensures counted { Fetched (change (F.state shelf.old) (F.state shelf.new)) 1 }
-    ensures same { (n : List ℕ) → (F.state shelf.new).holds n ≡ (F.state shelf.old).holds n }
+    ensures fetches { OnlyFetches (change (F.state shelf.old) (F.state shelf.new)) }
 {
     match fetch_grammar(alloc, shelf, name)? {
         Some(bytes) => read_grammar(alloc, bytes.as_slice(), notation),
@@ -56,10 +56,10 @@ pub fn fetch_grammar<F: Shelf>(
     shelf: &mut F,
     name: &str,
 ) -> Result<Option<Vec<u8>>, Stop>
-    ensures answer { LoadsGrammarText (change (F.state shelf.old) (F.state shelf.new)) name.now
-        result }
+    ensures answer { ByFetches (λ call. LoadsGrammarText call name.now result)
+        (change (F.state shelf.old) (F.state shelf.new)) }
     ensures counted { Fetched (change (F.state shelf.old) (F.state shelf.new)) 1 }
-    ensures same { (n : List ℕ) → (F.state shelf.new).holds n ≡ (F.state shelf.old).holds n }
+    ensures fetches { OnlyFetches (change (F.state shelf.old) (F.state shelf.new)) }
 {
     match shelf.fetch(alloc, name, MOST_BYTES as u64) {
         Ok(bytes) => Ok(Some(bytes)),
@@ -83,10 +83,10 @@ pub fn load_input<F: Shelf>(
     tabs: u32,
 ) -> Result<Text, Stop>
     requires { IsTabWidth tabs }
-    ensures answer { LoadsInput tabs (change (F.state shelf.old) (F.state shelf.new)) name.now
-        result }
+    ensures answer { ByFetches (λ call. LoadsInput tabs call name.now result)
+        (change (F.state shelf.old) (F.state shelf.new)) }
     ensures counted { Fetched (change (F.state shelf.old) (F.state shelf.new)) 1 }
-    ensures same { (n : List ℕ) → (F.state shelf.new).holds n ≡ (F.state shelf.old).holds n }
+    ensures fetches { OnlyFetches (change (F.state shelf.old) (F.state shelf.new)) }
 {
     match shelf.fetch(alloc, name, MOST_INPUT_BYTES as u64) {
         Ok(bytes) => read_input(alloc, bytes.as_slice(), tabs),
@@ -102,9 +102,10 @@ pub fn load_input<F: Shelf>(
 /// Stops with the status `ReadFault` where the shelf holds nothing under the name or fails; with
 /// `NotForest` where there are more than [`MOST_FOREST_BYTES`]; or for want of memory.
 pub fn load_forest<F: Shelf>(alloc: Global, shelf: &mut F, name: &str) -> Result<Vec<u8>, Stop>
-    ensures answer { LoadsForest (change (F.state shelf.old) (F.state shelf.new)) name.now result }
+    ensures answer { ByFetches (λ call. LoadsForest call name.now result)
+        (change (F.state shelf.old) (F.state shelf.new)) }
     ensures counted { Fetched (change (F.state shelf.old) (F.state shelf.new)) 1 }
-    ensures same { (n : List ℕ) → (F.state shelf.new).holds n ≡ (F.state shelf.old).holds n }
+    ensures fetches { OnlyFetches (change (F.state shelf.old) (F.state shelf.new)) }
 {
     match shelf.fetch(alloc, name, MOST_FOREST_BYTES) {
         Ok(bytes) => Ok(bytes),
@@ -121,10 +122,11 @@ pub fn load_forest<F: Shelf>(alloc: Global, shelf: &mut F, name: &str) -> Result
 /// `BadList` where there are more than [`MOST_LIST_BYTES`], or they aren't the text of a list; or
 /// for want of memory.
 pub fn load_list<F: Shelf>(alloc: Global, shelf: &mut F, name: &str) -> Result<Vec<Names>, Stop>
-    ensures answer { LoadsList (change (F.state shelf.old) (F.state shelf.new)) name.now result }
+    ensures answer { ByFetches (λ call. LoadsList call name.now result)
+        (change (F.state shelf.old) (F.state shelf.new)) }
     ensures few { IfOk result (λ jobs. vec_len jobs ≤ most_jobs) }
     ensures counted { Fetched (change (F.state shelf.old) (F.state shelf.new)) 1 }
-    ensures same { (n : List ℕ) → (F.state shelf.new).holds n ≡ (F.state shelf.old).holds n }
+    ensures fetches { OnlyFetches (change (F.state shelf.old) (F.state shelf.new)) }
 {
     match shelf.fetch(alloc, name, MOST_LIST_BYTES) {
         Ok(bytes) => read_jobs(alloc, bytes.as_slice()),

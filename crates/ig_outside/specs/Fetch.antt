@@ -1,5 +1,5 @@
 -- What a fetch may answer.
-use Rattle.std.specs.Prelude.{◌≡◌, ℕ, ◌<◌, ◌≤◌, length, Result, Ok, Err, Vec}
+use Rattle.std.specs.Prelude.{◌≡◌, ℕ, ◌<◌, ◌≤◌, List, length, Result, Ok, Err, Vec}
 use Rattle.std.specs.declared.alloc.Global.{Global}
 use Rattle.ig_outside.specs.declared.shelf.FetchFault.{FetchFault}
 use Rattle.ig_outside.specs.declared.shelf.FetchFault.TheVariants.{Failed, Long, Memory, Missing}
@@ -27,3 +27,11 @@ CausesFetch old new (Err Failed) = Rose old new
 CausesFetch old new (Err Long) = new ≡ old
 CausesFetch old new (Err Memory) = new ≡ old
 CausesFetch old new (Err Missing) = new ≡ old
+
+-- a fetch: the name, how many bytes were asked for at most, and the answer
+abbrev pub Given : Type 0
+Given = List ℕ × (ℕ × Result (Vec ℕ Global) FetchFault)
+
+-- a shelf that tells this of the names may have given that
+abbrev pub Agrees : (List ℕ → Told) → Given → Type 0
+Agrees told given = AnswersFetch (told given.0) given.1.0 given.1.1

@@ -1,7 +1,7 @@
 pub mod Counts
 pub mod Told
-pub mod States
 pub mod Fetch
+pub mod States
 pub mod Put
 pub mod MemoryShelf
 pub mod MemorySink

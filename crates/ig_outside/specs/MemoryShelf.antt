@@ -5,6 +5,7 @@ use Rattle.std.specs.BTreeMap.{get_by_text}
 use Rattle.std.specs.BTreeSet.{contains}
 use Rattle.std.specs.declared.alloc.Global.{Global}
 use Rattle.ig_outside.specs.declared.memory_shelf.MemoryShelf.{MemoryShelf}
+use Rattle.ig_outside.specs.Fetch.{Given}
 use Rattle.ig_outside.specs.States.{ShelfState}
 use Rattle.ig_outside.specs.Told.{Told, nothing, bytes}
 
@@ -25,9 +26,13 @@ faults_of s = s.faults
 abbrev pub fetches_of : MemoryShelf → ℕ
 fetches_of s = s.fetches
 
+-- what each fetch gave
+abbrev pub given_of : MemoryShelf → List Given
+given_of s = s.record.entries
+
 -- what its callers see
 abbrev pub state_of : MemoryShelf → ShelfState
-state_of s = record { holds = content_of s; faults = faults_of s; fetches = fetches_of s }
+state_of s = record { holds = content_of s; faults = faults_of s; fetches = fetches_of s; given = given_of s }
 
 -- whether the fetch of this number was told to fail
 abbrev pub fails_at : MemoryShelf → ℕ → Bool
@@ -42,9 +47,10 @@ pub record Holds (old new : MemoryShelf) (name content : List ℕ) : Type 0 wher
 abbrev pub SameContent : MemoryShelf → MemoryShelf → Type 0
 SameContent old new = (n : List ℕ) → content_of new n ≡ content_of old n
 
--- both counts are as they were
+-- both counts and the record are as they were
 abbrev pub SameCounts : MemoryShelf → MemoryShelf → Type 0
-SameCounts old new = (faults_of new ≡ faults_of old) × (fetches_of new ≡ fetches_of old)
+SameCounts old new =
+    (faults_of new ≡ faults_of old) × (fetches_of new ≡ fetches_of old) × (given_of new ≡ given_of old)
 
 -- the calls that were told to fail are as they were
 abbrev pub SameFailures : MemoryShelf → MemoryShelf → Type 0

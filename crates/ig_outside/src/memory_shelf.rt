@@ -1,13 +1,14 @@
 //! A shelf in memory, which fails at the fetches that it was told to fail at.
-ghost use Rattle.std.specs.Prelude.{◌≡◌, ◌≢◌, ℕ, ◌≤◌, ◌↔◌, List, IsTrue, false, OnOk, OnErr};
-ghost use Rattle.std.specs.Prelude.{if◌then◌else◌, option_copied};
+ghost use Rattle.std.specs.Prelude.{◌≡◌, ◌≢◌, ℕ, ◌≤◌, ◌↔◌, List, [], ◌∷◌, ◌++◌, IsTrue, false};
+ghost use Rattle.std.specs.Prelude.{OnOk, OnErr, if◌then◌else◌, option_copied};
 ghost use Rattle.ig_outside.specs.Counts.{last_count, risen};
 ghost use Rattle.ig_outside.specs.Told.{nothing};
 ghost use Rattle.ig_outside.specs.Fetch.{AnswersFetch, CausesFetch};
 ghost use Rattle.ig_outside.specs.MemoryShelf.{content_of, told_of, faults_of, fetches_of};
-ghost use Rattle.ig_outside.specs.MemoryShelf.{state_of, fails_at, Holds, Fails, SameContent};
-ghost use Rattle.ig_outside.specs.MemoryShelf.{SameCounts, SameFailures};
+ghost use Rattle.ig_outside.specs.MemoryShelf.{given_of, state_of, fails_at, Holds, Fails};
+ghost use Rattle.ig_outside.specs.MemoryShelf.{SameContent, SameCounts, SameFailures};
 
+use crate::record::Record;
 use crate::shelf::{FetchFault, Shelf};
 use std::alloc::{AllocError, Global};
 use std::collections::{BTreeMap, BTreeSet};
@@ -21,6 +22,7 @@ pub struct MemoryShelf {
     failing: BTreeSet<u64>,
     faults: u64,
     fetches: u64,
+    record: Record<u64, Result<Vec<u8>, FetchFault>>,
 }
 
 impl MemoryShelf {
@@ -30,6 +32,7 @@ impl MemoryShelf {
         ensures no_failures { (k : ℕ) → fails_at result k ≡ false }
         ensures faults { (⟦<MemoryShelf as Shelf>⟧.state result).faults ≡ 0 }
         ensures fetches { (⟦<MemoryShelf as Shelf>⟧.state result).fetches ≡ 0 }
+        ensures given { (⟦<MemoryShelf as Shelf>⟧.state result).given ≡ [] }
     {
         MemoryShelf {
             alloc,
@@ -37,6 +40,7 @@ impl MemoryShelf {
             failing: BTreeSet::new(alloc),
             faults: 0,
             fetches: 0,
+            record: Record::new(),
         }
     }
 
@@ -87,6 +91,8 @@ impl Shelf for MemoryShelf {
         ensures before { faults_of self.old ≤ last_count }
         ensures after { faults_of self.new ≤ last_count }
         ensures counted { fetches_of self.new ≡ risen (fetches_of self.old) }
+        ensures recorded { given_of self.new ≡
+            given_of self.old ++ (name.now, (most, result)) ∷ [] }
         ensures same { (n : List ℕ) → content_of self.new n ≡ content_of self.old n }
         ensures failed { IsTrue (fails_at self.old (fetches_of self.new)) ↔
             (result ≡ Err FetchFault.Failed) }
@@ -98,9 +104,13 @@ impl Shelf for MemoryShelf {
         self.fetches = self.fetches.saturating_add(1);
         if self.failing.contains(&self.fetches) {
             self.faults = faults.saturating_add(1);
-            return Err(FetchFault::Failed);
+            let answer = Err(FetchFault::Failed);
+            self.record = self.record.and(name, &most, &answer);
+            return answer;
         }
-        copy_of(alloc, self.contents.get(name), most)
+        let answer = copy_of(alloc, self.contents.get(name), most);
+        self.record = self.record.and(name, &most, &answer);
+        answer
     }
 }
 

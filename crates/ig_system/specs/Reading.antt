@@ -1,6 +1,7 @@
 -- What is read of a file.
 use Rattle.std.specs.Prelude.{◌≡◌, ℕ, ◌≤◌, List, ◌++◌, length, Option, Some, None}
 use Rattle.std.specs.Io.KnownBytes.{Consumes, IsAtEnd}
+use Rattle.ig_outside.specs.Fetch.{Given}
 use Rattle.ig_outside.specs.States.{ShelfState}
 use Rattle.ig_outside.specs.Told.{Told, silent, bytes}
 use Rattle.ig_outside.specs.declared.shelf.FetchFault.{FetchFault}
@@ -12,8 +13,9 @@ told_by None = silent
 told_by (Some xs) = bytes xs
 
 -- what a shelf over files is for its callers: its folder knows these bytes
-abbrev pub shelf_state : (List ℕ → Option (List ℕ)) → ℕ → ℕ → ShelfState
-shelf_state content faults fetches = record { holds = λ name. told_by (content name); faults = faults; fetches = fetches }
+abbrev pub shelf_state : (List ℕ → Option (List ℕ)) → ℕ → ℕ → List Given → ShelfState
+shelf_state content faults fetches given =
+    record { holds = λ name. told_by (content name); faults = faults; fetches = fetches; given = given }
 
 -- where it is known what a file has, a reader at its begin has that left
 abbrev pub Begins : Option (List ℕ) → Option (List ℕ) → Type 0

@@ -1,5 +1,5 @@
 //! A shelf over files.
-ghost use Rattle.std.specs.Prelude.{◌≡◌, ◌<◌, IfOk, IfErr, length};
+ghost use Rattle.std.specs.Prelude.{◌≡◌, ◌<◌, [], IfOk, IfErr, length};
 ghost use Rattle.ig_outside.specs.Fetch.{AnswersFetch};
 ghost use Rattle.ig_system.specs.Reading.{told_by, shelf_state, Piece, IsReadFault};
 
@@ -7,44 +7,50 @@ ghost use Rattle.ig_system.specs.Reading.{told_by, shelf_state, Piece, IsReadFau
 mod tests;
 
 use crate::folder::Folder;
-use ig_outside::{FetchFault, Shelf};
+use ig_outside::{FetchFault, Record, Shelf};
 use std::alloc::Global;
 use std::io::Read;
 
 /// How many bytes one read asks for at most.
 const PIECE: usize = 65536;
 
-/// A shelf that fetches files by their names, and tells what its folder tells.
+/// A shelf that fetches files by their names, and tells what its folder tells. What each fetch gave
+/// is recorded for proofs, of files of which nothing is known too.
 #[derive(Drop)]
 pub struct FileShelf<'a, D> {
     folder: &'a D,
     faults: u64,
     fetches: u64,
+    record: Record<u64, Result<Vec<u8>, FetchFault>>,
 }
 
 impl<'a, D: Folder> FileShelf<'a, D> {
-    /// A shelf with the counts 0. Takes no memory.
+    /// A shelf with the counts 0, which gave nothing yet. Takes no memory.
     pub fn new(folder: &'a D) -> FileShelf<'a, D>
         ensures { ⟦<FileShelf<'a, D> as Shelf>⟧.state result
-            ≡ shelf_state (D.content folder.now) 0 0 }
+            ≡ shelf_state (D.content folder.now) 0 0 [] }
     {
         FileShelf {
             folder,
             faults: 0,
             fetches: 0,
+            record: Record::new(),
         }
     }
 }
 
 impl<D: Folder> Shelf for FileShelf<'_, D> {
-    ghost state = { λ s. shelf_state (D.content s.folder.now) s.faults s.fetches };
+    ghost state = { λ s. shelf_state (D.content s.folder.now) s.faults s.fetches
+        s.record.entries };
 
     /// Fetches as every shelf does. It is `Failed` where the file can't be opened, as where there
     /// is none, or a read fails; the contracts of both don't say when that may be.
     fn fetch(&mut self, alloc: Global, name: &str, most: u64) -> Result<Vec<u8>, FetchFault> {
         let faults = self.faults;
         self.fetches = self.fetches.saturating_add(1);
-        match read_file(alloc, self.folder, name, most) {
+        let answer = read_file(alloc, self.folder, name, most);
+        self.record = self.record.and(name, &most, &answer);
+        match answer {
             Ok(content) => Ok(content),
             Err(FetchFault::Failed) => {
                 self.faults = faults.saturating_add(1);

@@ -2,7 +2,8 @@
 //! its trait; the words that a program is run with, and its exit code.
 //!
 //! What files are opened from is a [`Folder`], so that a shelf is proved over any; of the files of
-//! the system, a [`SystemFolder`], nothing is known.
+//! the system, a [`SystemFolder`], nothing is known beforehand. What was read of them, the shelf
+//! records.
 #![tactic(auto)]
 
 mod arguments;

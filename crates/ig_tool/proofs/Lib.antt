@@ -1,5 +1,6 @@
 pub mod Counted
 pub mod Fetching
+pub mod Recorded
 pub mod Stopping
 pub mod Kept
 pub mod Finding

@@ -28,7 +28,8 @@ told_by (one ∷ held) name = if is_word one.name name then told_of one.content 
 -- a call over a shelf that tells this, in which nothing failed
 abbrev pub calmly : (List ℕ → Told) → Change ShelfState
 calmly holds =
-    change (record { holds = holds; faults = 0; fetches = 0 }) (record { holds = holds; faults = 0; fetches = 0 })
+    change (record { holds = holds; faults = 0; fetches = 0; given = [] })
+    (record { holds = holds; faults = 0; fetches = 0; given = [] })
 
 -- the status, the text for out and the line for notes that come of the words, by what the list holds
 abbrev pub OutcomeOfWords : List (List ℕ) → List Held → Status → List ℕ → List ℕ → Type 0

@@ -1,11 +1,11 @@
 //! The grammars of a batch, each read once.
-ghost use Rattle.std.specs.Prelude.{◌≡◌, ◌↔◌, ◌<◌, ◌≤◌, ℕ, ◌++◌, ◌∷◌, [], List, All};
+ghost use Rattle.std.specs.Prelude.{◌≡◌, ◌↔◌, ◌<◌, ◌≤◌, ◌++◌, ◌∷◌, [], All};
 ghost use Rattle.std.specs.Prelude.{IfOk, IsTrue, MatchOption, OnErr, OnOk, length, slice_get};
 ghost use Rattle.std.specs.Option.{IsSomeAnd};
 ghost use Rattle.ig_text.specs.Input.{IsTabWidth};
 ghost use Rattle.ig_grammar.specs.Tabs.{tab_width};
 ghost use Rattle.ig_notation_syntax.specs.Notation.{most_bytes};
-ghost use Rattle.ig_command_endings.specs.Change.{change, Fetched};
+ghost use Rattle.ig_command_endings.specs.Change.{change, ByFetches, Fetched, OnlyFetches};
 ghost use Rattle.ig_tool.specs.Loading.{Accepts, FindsGrammar, Grows, IsKept, PlacesGrammar};
 ghost use Rattle.ig_tool.specs.Loading.{refused_text};
 
@@ -44,12 +44,13 @@ pub(crate) fn find_grammar<F: Shelf>(
     name: &str,
 ) -> Result<Found, Stop>
     requires { All IsKept kept.old.items }
-    ensures answer { FindsGrammar kept.new.items ((F.state shelf.old).holds name.now) name.now
-        (F.state shelf.old).faults (F.state shelf.new).faults result }
+    ensures answer { ByFetches (λ call. FindsGrammar kept.new.items (call.before.holds name.now)
+        name.now call.before.faults call.after.faults result)
+        (change (F.state shelf.old) (F.state shelf.new)) }
     ensures grown { Grows kept.old.items kept.new.items }
     ensures kept { All IsKept kept.new.items }
     ensures counted { Fetched (change (F.state shelf.old) (F.state shelf.new)) 1 }
-    ensures same { (n : List ℕ) → (F.state shelf.new).holds n ≡ (F.state shelf.old).holds n }
+    ensures fetches { OnlyFetches (change (F.state shelf.old) (F.state shelf.new)) }
 {
     match fetch_grammar(alloc, shelf, name)? {
         Some(bytes) => place_grammar(alloc, kept, bytes),

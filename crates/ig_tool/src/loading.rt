@@ -1,8 +1,8 @@
 //! Fetching and reading the files of jobs.
-ghost use Rattle.std.specs.Prelude.{◌≡◌, ℕ, ◌++◌, ◌∷◌, [], List, All, OnOk, map};
+ghost use Rattle.std.specs.Prelude.{◌≡◌, ◌++◌, ◌∷◌, [], All, OnOk, map};
 ghost use Rattle.ig_text.specs.Input.{IsTabWidth};
 ghost use Rattle.ig_turns.specs.Reads.{stored_job};
-ghost use Rattle.ig_command_endings.specs.Change.{change, Fetched};
+ghost use Rattle.ig_command_endings.specs.Change.{change, ByFetches, Fetched, OnlyFetches};
 ghost use Rattle.ig_tool.specs.Loading.{FindsInput, Grows, IsKept, LoadsJob, LoadsJobs};
 ghost use Rattle.ig_tool.specs.Loading.{refused_input};
 
@@ -37,9 +37,9 @@ pub(crate) fn load_jobs<F: Shelf>(
     shelf: &mut F,
     list: &[Names],
 ) -> Result<Batch, Stop>
-    ensures answer { LoadsJobs (change (F.state shelf.old) (F.state shelf.new))
-        (map stored_job list.now) result }
-    ensures same { (n : List ℕ) → (F.state shelf.new).holds n ≡ (F.state shelf.old).holds n }
+    ensures answer { ByFetches (λ call. LoadsJobs call (map stored_job list.now) result)
+        (change (F.state shelf.old) (F.state shelf.new)) }
+    ensures fetches { OnlyFetches (change (F.state shelf.old) (F.state shelf.new)) }
 {
     let mut kept = Vec::new(alloc);
     let mut jobs = Vec::new(alloc);
@@ -66,11 +66,12 @@ fn load_job<F: Shelf>(
     names: &Names,
 ) -> Result<Loaded, Stop>
     requires { All IsKept kept.old.items }
-    ensures answer { LoadsJob (change (F.state shelf.old) (F.state shelf.new)) kept.new.items
-        (stored_job names.now) result }
+    ensures answer { ByFetches (λ call.
+        LoadsJob call kept.new.items (stored_job names.now) result)
+        (change (F.state shelf.old) (F.state shelf.new)) }
     ensures grown { Grows kept.old.items kept.new.items }
     ensures kept { All IsKept kept.new.items }
-    ensures same { (n : List ℕ) → (F.state shelf.new).holds n ≡ (F.state shelf.old).holds n }
+    ensures fetches { OnlyFetches (change (F.state shelf.old) (F.state shelf.new)) }
 {
     match find_grammar(alloc, shelf, kept, names.grammar.as_str())? {
         Found::At(at) => {
@@ -91,10 +92,11 @@ fn find_input<F: Shelf>(
     name: &str,
 ) -> Result<Loaded, Stop>
     requires { IsTabWidth tabs }
-    ensures answer { FindsInput tabs at ((F.state shelf.old).holds name.now) name.now
-        (F.state shelf.old).faults (F.state shelf.new).faults result }
+    ensures answer { ByFetches (λ call. FindsInput tabs at (call.before.holds name.now) name.now
+        call.before.faults call.after.faults result)
+        (change (F.state shelf.old) (F.state shelf.new)) }
     ensures counted { Fetched (change (F.state shelf.old) (F.state shelf.new)) 1 }
-    ensures same { (n : List ℕ) → (F.state shelf.new).holds n ≡ (F.state shelf.old).holds n }
+    ensures fetches { OnlyFetches (change (F.state shelf.old) (F.state shelf.new)) }
 {
     match load_input(alloc, shelf, name, tabs) {
         Ok(input) => Ok(Loaded::Accepted(at, input)),

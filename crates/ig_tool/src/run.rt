@@ -1,6 +1,6 @@
 //! The command, from the name of a list to the text of all its jobs.
-ghost use Rattle.std.specs.Prelude.{◌≡◌, ◌<◌, ℕ, List};
-ghost use Rattle.ig_command_endings.specs.Change.{change};
+ghost use Rattle.std.specs.Prelude.{◌<◌};
+ghost use Rattle.ig_command_endings.specs.Change.{change, ByFetches, OnlyFetches};
 ghost use Rattle.ig_tool.specs.Batch.{RunsBatch};
 
 use crate::loading::load_jobs;
@@ -26,9 +26,9 @@ pub fn batch<F: Shelf>(
     turn: u32,
 ) -> Result<Vec<u8>, Stop>
     requires { 0 < turn }
-    ensures answer { RunsBatch budget (change (F.state shelf.old) (F.state shelf.new)) list.now
-        result }
-    ensures same { (n : List ℕ) → (F.state shelf.new).holds n ≡ (F.state shelf.old).holds n }
+    ensures answer { ByFetches (λ call. RunsBatch budget call list.now result)
+        (change (F.state shelf.old) (F.state shelf.new)) }
+    ensures fetches { OnlyFetches (change (F.state shelf.old) (F.state shelf.new)) }
 {
     let names = load_list(alloc, shelf, list)?;
     let batch = load_jobs(alloc, shelf, names.as_slice())?;

@@ -2,7 +2,7 @@
 ghost use Rattle.std.specs.Prelude.{◌≡◌, ℕ, List, map, string_bytes};
 ghost use Rattle.ig_core.specs.Notation.{unchanged};
 ghost use Rattle.ig_command.specs.Commands.{IsCommand, stored_source, verify};
-ghost use Rattle.ig_command_endings.specs.Change.{change, Fetched};
+ghost use Rattle.ig_command_endings.specs.Change.{change, ByFetches, Fetched, OnlyFetches};
 ghost use Rattle.ig_command_jobs.specs.Jobs.{request_for, stored_job, task_request};
 ghost use Rattle.ig_command_jobs.specs.Verifying.{IsTaken};
 ghost use Rattle.ig_tool.specs.Outcome.{Answers};
@@ -70,6 +70,10 @@ use std::alloc::Global;
 /// `plain`. It changes no byte of the output.
 ///
 /// The words come without the program's name. All memory is taken before the first put.
+///
+/// The contract speaks of the bytes that this call read: each clause on the shelf holds by whatever
+/// may be told of the names that agrees with what each fetch of the call gave. What the shelf tells
+/// beforehand is one of these.
 pub fn iguana<F: Shelf, O: Sink, N: Sink>(
     alloc: Global,
     words: &[String],
@@ -77,42 +81,42 @@ pub fn iguana<F: Shelf, O: Sink, N: Sink>(
     out: &mut O,
     notes: &mut N,
 ) -> Status
-    ensures answer { Answers (map string_bytes words.now)
-        (change (F.state shelf.old) (F.state shelf.new))
+    ensures answer { ByFetches (λ call. Answers (map string_bytes words.now) call
         (change (O.state out.old) (O.state out.new))
-        (change (N.state notes.old) (N.state notes.new)) result }
-    ensures outcome { AnswersOutcome (map string_bytes words.now)
-        (change (F.state shelf.old) (F.state shelf.new))
+        (change (N.state notes.old) (N.state notes.new)) result)
+        (change (F.state shelf.old) (F.state shelf.new)) }
+    ensures outcome { ByFetches (λ call. AnswersOutcome (map string_bytes words.now) call
         (change (O.state out.old) (O.state out.new))
-        (change (N.state notes.old) (N.state notes.new)) result }
-    ensures headline { Headline (map string_bytes words.now)
-        (change (F.state shelf.old) (F.state shelf.new))
+        (change (N.state notes.old) (N.state notes.new)) result)
+        (change (F.state shelf.old) (F.state shelf.new)) }
+    ensures headline { ByFetches (λ call. Headline (map string_bytes words.now) call
         (change (O.state out.old) (O.state out.new))
-        (change (N.state notes.old) (N.state notes.new)) result }
-    ensures completeness { Completeness (map string_bytes words.now)
-        (change (F.state shelf.old) (F.state shelf.new))
+        (change (N.state notes.old) (N.state notes.new)) result)
+        (change (F.state shelf.old) (F.state shelf.new)) }
+    ensures completeness { ByFetches (λ call. Completeness (map string_bytes words.now) call
         (change (O.state out.old) (O.state out.new))
-        (change (N.state notes.old) (N.state notes.new)) result }
-    ensures grammar_commands { GrammarCommands (map string_bytes words.now)
-        (change (F.state shelf.old) (F.state shelf.new))
+        (change (N.state notes.old) (N.state notes.new)) result)
+        (change (F.state shelf.old) (F.state shelf.new)) }
+    ensures grammar_commands { ByFetches (λ call. GrammarCommands (map string_bytes words.now) call
         (change (O.state out.old) (O.state out.new))
-        (change (N.state notes.old) (N.state notes.new)) result }
-    ensures verification { Verification (map string_bytes words.now)
-        (change (F.state shelf.old) (F.state shelf.new))
+        (change (N.state notes.old) (N.state notes.new)) result)
+        (change (F.state shelf.old) (F.state shelf.new)) }
+    ensures verification { ByFetches (λ call. Verification (map string_bytes words.now) call
         (change (O.state out.old) (O.state out.new))
-        (change (N.state notes.old) (N.state notes.new)) result }
-    ensures certification { Certification (map string_bytes words.now)
-        (change (F.state shelf.old) (F.state shelf.new))
+        (change (N.state notes.old) (N.state notes.new)) result)
+        (change (F.state shelf.old) (F.state shelf.new)) }
+    ensures certification { ByFetches (λ call. Certification (map string_bytes words.now) call
         (change (O.state out.old) (O.state out.new))
-        (change (N.state notes.old) (N.state notes.new)) result }
+        (change (N.state notes.old) (N.state notes.new)) result)
+        (change (F.state shelf.old) (F.state shelf.new)) }
     ensures loads { LoadCommands (map string_bytes words.now)
         (change (O.state out.old) (O.state out.new))
         (change (N.state notes.old) (N.state notes.new)) result }
-    ensures batches { BatchCommands (map string_bytes words.now)
-        (change (F.state shelf.old) (F.state shelf.new))
+    ensures batches { ByFetches (λ call. BatchCommands (map string_bytes words.now) call
         (change (O.state out.old) (O.state out.new))
-        (change (N.state notes.old) (N.state notes.new)) result }
-    ensures same { (n : List ℕ) → (F.state shelf.new).holds n ≡ (F.state shelf.old).holds n }
+        (change (N.state notes.old) (N.state notes.new)) result)
+        (change (F.state shelf.old) (F.state shelf.new)) }
+    ensures fetches { OnlyFetches (change (F.state shelf.old) (F.state shelf.new)) }
 {
     one_reading();
     texts_are_read_or_refused();
@@ -122,9 +126,9 @@ pub fn iguana<F: Shelf, O: Sink, N: Sink>(
 
 /// The text for out, or why there is none. Writes nothing.
 fn decide<F: Shelf>(alloc: Global, words: &[String], shelf: &mut F) -> Result<Vec<u8>, Stop>
-    ensures answer { Decides (map string_bytes words.now)
-        (change (F.state shelf.old) (F.state shelf.new)) result }
-    ensures same { (n : List ℕ) → (F.state shelf.new).holds n ≡ (F.state shelf.old).holds n }
+    ensures answer { ByFetches (λ call. Decides (map string_bytes words.now) call result)
+        (change (F.state shelf.old) (F.state shelf.new)) }
+    ensures fetches { OnlyFetches (change (F.state shelf.old) (F.state shelf.new)) }
 {
     batch_numbers_are_some();
     load_sizes_are_few();
@@ -161,8 +165,9 @@ fn on_grammar<F: Shelf>(
 ) -> Result<Vec<u8>, Stop>
     ensures answer { (words : List (List ℕ)) →
         IsCommand words (task_request task (stored_source source.entry)) →
-        Decides words (change (F.state shelf.old) (F.state shelf.new)) result }
-    ensures same { (n : List ℕ) → (F.state shelf.new).holds n ≡ (F.state shelf.old).holds n }
+        ByFetches (λ call. Decides words call result)
+        (change (F.state shelf.old) (F.state shelf.new)) }
+    ensures fetches { OnlyFetches (change (F.state shelf.old) (F.state shelf.new)) }
 {
     read_grammars_are_buildable();
     read_grammars_have_readings();
@@ -183,8 +188,9 @@ fn on_input<F: Shelf>(
     ensures answer { (words : List (List ℕ)) →
         IsCommand words (request_for (stored_job job.entry) (stored_source files.entry.grammar)
         files.entry.input.now budget) →
-        Decides words (change (F.state shelf.old) (F.state shelf.new)) result }
-    ensures same { (n : List ℕ) → (F.state shelf.new).holds n ≡ (F.state shelf.old).holds n }
+        ByFetches (λ call. Decides words call result)
+        (change (F.state shelf.old) (F.state shelf.new)) }
+    ensures fetches { OnlyFetches (change (F.state shelf.old) (F.state shelf.new)) }
 {
     read_grammars_are_buildable();
     let checked = load_grammar(alloc, shelf, files.grammar.name, files.grammar.notation)?;
@@ -204,10 +210,11 @@ fn run<F: Shelf>(
     job: Job<'_>,
 ) -> Result<Vec<u8>, Stop>
     requires as_it_is { parser.now ≡ unchanged parser.now.grammar }
-    ensures answer { RunsJob parser.now budget (stored_job job.entry)
-        (change (F.state shelf.old) (F.state shelf.new)) name.now result }
+    ensures answer { ByFetches (λ call.
+        RunsJob parser.now budget (stored_job job.entry) call name.now result)
+        (change (F.state shelf.old) (F.state shelf.new)) }
     ensures counted { Fetched (change (F.state shelf.old) (F.state shelf.new)) 1 }
-    ensures same { (n : List ℕ) → (F.state shelf.new).holds n ≡ (F.state shelf.old).holds n }
+    ensures fetches { OnlyFetches (change (F.state shelf.old) (F.state shelf.new)) }
 {
     let input = load_input(alloc, shelf, name, parser.tab_width())?;
     parse(alloc, parser, &input, budget, order, job)
@@ -224,8 +231,9 @@ fn on_forest<F: Shelf>(
     ensures answer { (words : List (List ℕ)) →
         IsCommand words (verify (stored_source files.entry.grammar) files.entry.input.now
         name.now) →
-        Decides words (change (F.state shelf.old) (F.state shelf.new)) result }
-    ensures same { (n : List ℕ) → (F.state shelf.new).holds n ≡ (F.state shelf.old).holds n }
+        ByFetches (λ call. Decides words call result)
+        (change (F.state shelf.old) (F.state shelf.new)) }
+    ensures fetches { OnlyFetches (change (F.state shelf.old) (F.state shelf.new)) }
 {
     read_grammars_are_buildable();
     let checked = load_grammar(alloc, shelf, files.grammar.name, files.grammar.notation)?;
@@ -244,10 +252,10 @@ fn check_forest<F: Shelf>(
     name: &str,
 ) -> Result<Vec<u8>, Stop>
     requires taken { IsTaken parser.now }
-    ensures answer { RunsCheck parser.now input.now
-        (change (F.state shelf.old) (F.state shelf.new)) name.now result }
+    ensures answer { ByFetches (λ call. RunsCheck parser.now input.now call name.now result)
+        (change (F.state shelf.old) (F.state shelf.new)) }
     ensures counted { Fetched (change (F.state shelf.old) (F.state shelf.new)) 1 }
-    ensures same { (n : List ℕ) → (F.state shelf.new).holds n ≡ (F.state shelf.old).holds n }
+    ensures fetches { OnlyFetches (change (F.state shelf.old) (F.state shelf.new)) }
 {
     let bytes = load_forest(alloc, shelf, name)?;
     verify_text(alloc, parser, input, bytes)

@@ -1,27 +1,28 @@
 use Rattle.std.proofs.Common.{◌≤◌, ℕ, List, length, subst, sym}
 use Rattle.ig_command_sources.proofs.Loading.{given_few, list_given, list_long, file_unread, file_missing}
 use Rattle.ig_command_sources.specs.Sources.{IsNoList, most_list_bytes}
+use Rattle.ig_command_sources.proofs.Recorded.{agrees, only_one}
 use Rattle.ig_command_sources.proofs.load.load_list.Goals as goal
 
 pub returns-in-Ok-clause-answer : goal.returns-in-Ok-clause-answer
-returns-in-Ok-clause-answer g c =
-    list_given _ c.args.name.now c.as_slice.result.now _ _ _ c.in-Ok.bytes c.read_jobs.result c.in-Ok.ensures.answer
+returns-in-Ok-clause-answer g c = λ told agree.
+    list_given _ c.args.name.now c.as_slice.result.now _ _ _ c.in-Ok.bytes c.read_jobs.result (agrees told _ _ _ c.in-Ok.ensures.recorded agree)
     c.in-Ok.ensures.cause c.as_slice.ensures.value c.read_jobs.ensures.reads
 
 pub returns-in-Err-Long-clause-answer : goal.returns-in-Err-Long-clause-answer
-returns-in-Err-Long-clause-answer g c =
-    let answer = rw c.in-Err-Long.field-0-is at c.in-Err-Long.ensures.answer in
+returns-in-Err-Long-clause-answer g c = λ told agree.
+    let answer = agrees told _ _ _ (rw c.in-Err-Long.field-0-is at c.in-Err-Long.ensures.recorded) agree in
     let cause = rw c.in-Err-Long.field-0-is at c.in-Err-Long.ensures.cause in
     list_long _ c.args.name.now _ _ c.long_list.result answer cause c.long_list.ensures
 
 pub returns-in-Err-Failed-clause-answer : goal.returns-in-Err-Failed-clause-answer
-returns-in-Err-Failed-clause-answer g c =
+returns-in-Err-Failed-clause-answer g c = λ told agree.
     let cause = rw c.in-Err-Failed.field-0-is at c.in-Err-Failed.ensures.cause in
     file_unread _ c.args.name.now _ _ IsNoList c.cannot_read.result cause c.cannot_read.ensures
 
 pub returns-in-Err-Missing-clause-answer : goal.returns-in-Err-Missing-clause-answer
-returns-in-Err-Missing-clause-answer g c =
-    let answer = rw c.in-Err-Missing.field-0-is at c.in-Err-Missing.ensures.answer in
+returns-in-Err-Missing-clause-answer g c = λ told agree.
+    let answer = agrees told _ _ _ (rw c.in-Err-Missing.field-0-is at c.in-Err-Missing.ensures.recorded) agree in
     let cause = rw c.in-Err-Missing.field-0-is at c.in-Err-Missing.ensures.cause in
     file_missing _ c.args.name.now _ _ IsNoList _ c.cannot_read-in-Err-Missing.result answer cause c.cannot_read-in-Err-Missing.ensures
 
@@ -29,3 +30,18 @@ pub read_jobs-requires : goal.read_jobs-requires
 read_jobs-requires g c =
     subst (λ (z : List ℕ). length z ≤ most_list_bytes) (sym c.as_slice.ensures.value)
     (given_few _ most_list_bytes c.in-Ok.bytes c.in-Ok.ensures.answer)
+
+pub returns-in-Ok-clause-fetches : goal.returns-in-Ok-clause-fetches
+returns-in-Ok-clause-fetches g c = only_one _ _ _ c.in-Ok.ensures.recorded c.in-Ok.ensures.answer c.in-Ok.ensures.same
+
+pub returns-in-Err-Long-clause-fetches : goal.returns-in-Err-Long-clause-fetches
+returns-in-Err-Long-clause-fetches g c = only_one _ _ _ c.in-Err-Long.ensures.recorded c.in-Err-Long.ensures.answer c.in-Err-Long.ensures.same
+
+pub returns-in-Err-Failed-clause-fetches : goal.returns-in-Err-Failed-clause-fetches
+returns-in-Err-Failed-clause-fetches g c = only_one _ _ _ c.in-Err-Failed.ensures.recorded c.in-Err-Failed.ensures.answer c.in-Err-Failed.ensures.same
+
+pub returns-in-Err-Missing-clause-fetches : goal.returns-in-Err-Missing-clause-fetches
+returns-in-Err-Missing-clause-fetches g c = only_one _ _ _ c.in-Err-Missing.ensures.recorded c.in-Err-Missing.ensures.answer c.in-Err-Missing.ensures.same
+
+pub returns-in-Err-Memory-clause-fetches : goal.returns-in-Err-Memory-clause-fetches
+returns-in-Err-Memory-clause-fetches g c = only_one _ _ _ c.in-Err-Memory.ensures.recorded c.in-Err-Memory.ensures.answer c.in-Err-Memory.ensures.same

@@ -3,14 +3,16 @@ use Rattle.std.specs.Prelude.{map, string_bytes}
 use Rattle.ig_command.specs.Commands.{IsCommand}
 use Rattle.ig_tool.proofs.Batching.{decides_batch}
 use Rattle.ig_tool.proofs.Deciding.{decides_usage, decides_load, decides_memory}
+use Rattle.ig_tool.proofs.Recorded.{only_none}
 use Rattle.ig_tool.proofs.top_call.decide.Goals as goal
 
 pub returns-in_default-clause-answer : goal.returns-in_default-clause-answer
-returns-in_default-clause-answer g c =
+returns-in_default-clause-answer g c = λ told agree.
     decides_usage _ _ c.usage.result (rw c.in_default.is at c.in_ok-command.ensures.reads) c.usage.ensures
 
 pub returns-in_err-command-clause-answer : goal.returns-in_err-command-clause-answer
-returns-in_err-command-clause-answer g c = decides_memory _ _ c.from_residual.result c.from_residual.ensures.1
+returns-in_err-command-clause-answer g c = λ told agree.
+    decides_memory _ _ c.from_residual.result c.from_residual.ensures.1
 
 pub returns-in-OnGrammar-clause-answer : goal.returns-in-OnGrammar-clause-answer
 returns-in-OnGrammar-clause-answer g c =
@@ -38,7 +40,7 @@ summary_line-requires g c =
     (subst (IsCommand (map string_bytes c.args.words.now)) (sym asked) read)
 
 pub returns-in-OfLoad-clause-answer : goal.returns-in-OfLoad-clause-answer
-returns-in-OfLoad-clause-answer g c =
+returns-in-OfLoad-clause-answer g c = λ told agree.
     let read = rw c.in-Some.is at c.in_ok-command.ensures.reads in
     let asked = rw c.in-OfLoad.is at c.work_of.ensures.request in
     decides_load _ _ c.in-OfLoad.size c.in-OfLoad.number c.in-OfLoad.budget c.summary_line.result
@@ -52,8 +54,17 @@ batch-requires g c =
     (subst (IsCommand (map string_bytes c.args.words.now)) (sym asked) read)).some_events
 
 pub returns-in-OnList-clause-answer : goal.returns-in-OnList-clause-answer
-returns-in-OnList-clause-answer g c =
+returns-in-OnList-clause-answer g c = λ told agree.
     let read = rw c.in-Some.is at c.in_ok-command.ensures.reads in
     let asked = rw c.in-OnList.is at c.work_of.ensures.request in
     decides_batch _ _ c.in-OnList.list.now c.in-OnList.budget c.in-OnList.turn
-    (subst (IsCommand (map string_bytes c.args.words.now)) (sym asked) read) c.batch.result c.batch.ensures.answer
+    (subst (IsCommand (map string_bytes c.args.words.now)) (sym asked) read) c.batch.result (c.batch.ensures.answer told agree)
+
+pub returns-in_default-clause-fetches : goal.returns-in_default-clause-fetches
+returns-in_default-clause-fetches g c = only_none _
+
+pub returns-in_err-command-clause-fetches : goal.returns-in_err-command-clause-fetches
+returns-in_err-command-clause-fetches g c = only_none _
+
+pub returns-in-OfLoad-clause-fetches : goal.returns-in-OfLoad-clause-fetches
+returns-in-OfLoad-clause-fetches g c = only_none _

@@ -10,37 +10,41 @@ use Rattle.ig_tool.proofs.VerificationLaw.{certification, verification}
 use Rattle.ig_tool.proofs.top_call.iguana.Goals as goal
 
 pub returns-clause-answer : goal.returns-clause-answer
-returns-clause-answer g c =
-    answers_end _ _ _ _ c.decide-decided.result c.end.result c.decide-decided.ensures.answer c.end.ensures
+returns-clause-answer g c = λ told agree.
+    answers_end _ _ _ _ c.decide-decided.result c.end.result (c.decide-decided.ensures.answer told agree) c.end.ensures
 
 pub returns-clause-outcome : goal.returns-clause-outcome
-returns-clause-outcome g c = answers_outcome _ _ _ _ _ (returns-clause-answer g c)
+returns-clause-outcome g c = λ told agree.
+    answers_outcome _ _ _ _ _ (returns-clause-answer g c told agree)
 
 pub returns-clause-headline : goal.returns-clause-headline
-returns-clause-headline g c =
-    headline (given c.one_reading.ensures c.texts_are_read_or_refused.ensures) _ _ _ _ _ (returns-clause-answer g c)
+returns-clause-headline g c = λ told agree.
+    headline (given c.one_reading.ensures c.texts_are_read_or_refused.ensures) _ _ _ _ _ (returns-clause-answer g c told agree)
 
 pub returns-clause-completeness : goal.returns-clause-completeness
-returns-clause-completeness g c =
-    completeness (given c.one_reading.ensures c.texts_are_read_or_refused.ensures) _ _ _ _ _ (returns-clause-answer g c)
+returns-clause-completeness g c = λ told agree.
+    completeness (given c.one_reading.ensures c.texts_are_read_or_refused.ensures) _ _ _ _ _ (returns-clause-answer g c told agree)
 
 pub returns-clause-grammar_commands : goal.returns-clause-grammar_commands
-returns-clause-grammar_commands g c =
-    grammar_commands (given c.one_reading.ensures c.texts_are_read_or_refused.ensures) _ _ _ _ _ (returns-clause-answer g c)
+returns-clause-grammar_commands g c = λ told agree.
+    grammar_commands (given c.one_reading.ensures c.texts_are_read_or_refused.ensures) _ _ _ _ _ (returns-clause-answer g c told agree)
 
 pub returns-clause-verification : goal.returns-clause-verification
-returns-clause-verification g c =
-    verification (given c.one_reading.ensures c.texts_are_read_or_refused.ensures) _ _ _ _ _ (returns-clause-answer g c)
+returns-clause-verification g c = λ told agree.
+    verification (given c.one_reading.ensures c.texts_are_read_or_refused.ensures) _ _ _ _ _ (returns-clause-answer g c told agree)
 
 pub returns-clause-certification : goal.returns-clause-certification
-returns-clause-certification g c =
-    certification (given c.one_reading.ensures c.texts_are_read_or_refused.ensures) _ _ _ _ _ (returns-clause-answer g c)
+returns-clause-certification g c = λ told agree.
+    certification (given c.one_reading.ensures c.texts_are_read_or_refused.ensures) _ _ _ _ _ (returns-clause-answer g c told agree)
 
 pub returns-clause-loads : goal.returns-clause-loads
-returns-clause-loads g c = load_commands _ _ _ _ _ (returns-clause-answer g c)
+returns-clause-loads g c =
+    load_commands _ _ _ _ _
+    (returns-clause-answer g c (g.F.Shelf.state c.args.shelf.now).holds c.decide-decided.ensures.fetches.as_told)
 
 pub returns-clause-batches : goal.returns-clause-batches
-returns-clause-batches g c = batch_commands _ _ _ _ _ (returns-clause-answer g c)
+returns-clause-batches g c = λ told agree.
+    batch_commands _ _ _ _ _ (returns-clause-answer g c told agree)
 
-pub returns-clause-same : goal.returns-clause-same
-returns-clause-same g c = c.decide-decided.ensures.same
+pub returns-clause-fetches : goal.returns-clause-fetches
+returns-clause-fetches g c = c.decide-decided.ensures.fetches

@@ -54,3 +54,9 @@ returns-then-contains-clause-failures c = search rules
 
 pub returns-clause-failures : goal.returns-clause-failures
 returns-clause-failures c = search rules
+
+pub returns-then-contains-clause-recorded : goal.returns-then-contains-clause-recorded
+returns-then-contains-clause-recorded c = search rules
+
+pub returns-clause-recorded : goal.returns-clause-recorded
+returns-clause-recorded c = search rules

@@ -54,3 +54,12 @@ returns-in-Err-clause-counted g c = search rules
 
 pub returns-in-Err-clause-same : goal.returns-in-Err-clause-same
 returns-in-Err-clause-same g c = search rules
+
+pub returns-in-Ok-clause-recorded : goal.returns-in-Ok-clause-recorded
+returns-in-Ok-clause-recorded g c = search rules
+
+pub returns-in-Err-Failed-clause-recorded : goal.returns-in-Err-Failed-clause-recorded
+returns-in-Err-Failed-clause-recorded g c = search rules
+
+pub returns-in-Err-clause-recorded : goal.returns-in-Err-clause-recorded
+returns-in-Err-clause-recorded g c = search rules
