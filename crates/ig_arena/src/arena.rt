@@ -1,6 +1,6 @@
 //! A list of values under ids.
 ghost use Rattle.std.specs.Prelude.{◌≡◌, ◌+◌, ◌-◌, ◌*◌, ◌<◌, ◌≤◌, [], ◌∷◌, ◌++◌, length, slice_get};
-ghost use Rattle.std.specs.Prelude.{take, replicate, IfOk, OnOk, OnErr, IfErr, IsOk, IfSome};
+ghost use Rattle.std.specs.Prelude.{take, replicate, IfOk, OnOk, OnErr, IfErr, IsOk, IfSome, Some};
 ghost use Rattle.std.specs.Option.{option_copied, option_copied_mut};
 ghost use Rattle.std.specs.Borrow.{sem};
 ghost use Rattle.ig_arena.specs.Filled.{Filled};
@@ -11,8 +11,8 @@ use ig_chunk::{Chunk, PLACES};
 use std::alloc::{AllocError, Global};
 use std::marker::{Model, PhantomData};
 
-/// The most values of an arena: an id has 32 bits.
-const MOST_VALUES: u64 = 4294967296;
+/// The most chunks of an arena, so that 32 bits hold the number of its values.
+const MOST_CHUNKS: usize = 4194303;
 
 /// A list of values, at whose end `push` adds. An id keeps its value.
 #[derive(Drop)]
@@ -35,7 +35,7 @@ impl<K, T> Model for Arena<K, T> {
     } };
 
     ghost invariant = { λ a. AreFilled a.count a.chunks.items
-        × (a.count ≤ 1024 * length a.chunks.items) × (length a.chunks.items ≤ 4194304) };
+        × (a.count ≤ 1024 * length a.chunks.items) × (length a.chunks.items ≤ 4194303) };
 }
 
 impl<K, T> Arena<K, T> {
@@ -51,9 +51,10 @@ impl<K, T> Arena<K, T> {
         }
     }
 
-    /// Adds the value at the end, and gives its id. Refused for want of memory, or of a number of
+    /// Adds the value at the end, and gives its id. Refused for want of memory, or of numbers of
     /// 32 bits, it hands the value back, and the arena is as before. Where there is spare room, it
     /// isn't refused, and takes no memory.
+    #[inline(always)]
     pub fn push(&mut self, value: T) -> Result<Id<K>, (T, AllocError)>
         ensures ok { OnOk result (self.new.values ≡ self.old.values ++ value ∷ []) }
         ensures id { IfOk result (λ id. id ≡ length self.old.values) }
@@ -62,21 +63,49 @@ impl<K, T> Arena<K, T> {
         ensures succeeds { 0 < self.old.spare → IsOk result }
         ensures spare { 0 < self.old.spare → self.new.spare + 1 ≡ self.old.spare }
     {
-        let count = self.count;
-        let Ok(number) = u32::try_from(count) else {
-            return Err((value, AllocError));
-        };
-        if let Err(refused) = make_room(&mut self.chunks, self.alloc, count / PLACES + 1) {
+        if let Err(refused) = self.reserve(1) {
             return Err((value, refused));
         }
-        self.chunks[count / PLACES].add(value);
-        self.count = count + 1;
-        Ok(Id::of(number))
+        Ok(self.push_reserved(value))
     }
 
-    /// Makes room for as many more values. Refused for want of memory, or of numbers of 32 bits,
-    /// the arena is as before.
+    /// Adds the value at the end, where there has to be spare room, and gives its id. Takes no
+    /// memory.
+    #[inline(always)]
+    pub fn push_reserved(&mut self, value: T) -> Id<K>
+        requires { 0 < self.old.spare }
+        ensures values { self.new.values ≡ self.old.values ++ value ∷ [] }
+        ensures id { result ≡ length self.old.values }
+        ensures few { result + 1 < 4294967296 }
+        ensures spare { self.new.spare + 1 ≡ self.old.spare }
+    {
+        let count = self.count;
+        self.chunks[count / PLACES].add(value);
+        self.count = count + 1;
+        Id::of(count as u32)
+    }
+
+    /// Makes room for as many more values, and takes no memory where it is there. Refused for want
+    /// of memory, or of numbers of 32 bits, the arena is as before.
+    #[inline(always)]
     pub fn reserve(&mut self, more: u64) -> Result<(), AllocError>
+        ensures values { self.new.values ≡ self.old.values }
+        ensures ok { OnOk result (more ≤ self.new.spare) }
+        ensures kept { self.old.spare ≤ self.new.spare }
+        ensures err { OnErr result (self.new ≡ self.old) }
+        ensures succeeds { more ≤ self.old.spare → IsOk result }
+        ensures there { more ≤ self.old.spare → self.new ≡ self.old }
+    {
+        if more <= self.spare() {
+            return Ok(());
+        }
+        self.make_room(more)
+    }
+
+    /// Makes room for as many more values. Refused, the arena is as before.
+    #[cold]
+    #[inline(never)]
+    fn make_room(&mut self, more: u64) -> Result<(), AllocError>
         ensures values { self.new.values ≡ self.old.values }
         ensures ok { OnOk result (more ≤ self.new.spare) }
         ensures kept { self.old.spare ≤ self.new.spare }
@@ -105,6 +134,16 @@ impl<K, T> Arena<K, T> {
         self.chunks.get(number / PLACES)?.get(number % PLACES)
     }
 
+    /// The value of that number, which has to be there. Takes no memory.
+    #[inline(always)]
+    pub fn at(&self, number: u32) -> &T
+        requires { number < length self.now.values }
+        ensures { slice_get self.now.values number ≡ Some result.now }
+    {
+        let number = number as usize;
+        self.chunks[number / PLACES].at(number % PLACES)
+    }
+
     /// The value of that id for writing; `None` exactly where the number is at least the length.
     /// Takes no memory.
     pub fn get_mut(&mut self, id: Id<K>) -> Option<&mut T>
@@ -124,36 +163,21 @@ impl<K, T> Arena<K, T> {
     }
 }
 
-/// The chunks that an arena needs for that many values and as many more; `None` where the numbers
-/// of 32 bits don't suffice.
+/// The chunks that an arena needs for that many values and as many more; `None` where these are
+/// more than it may have.
 fn chunks_for(count: usize, more: u64) -> Option<usize>
-    ensures { IfSome result (λ chunks. (count + more ≤ 1024 * chunks) × (chunks ≤ 4194304)) }
+    ensures { IfSome result (λ chunks. (count + more ≤ 1024 * chunks) × (chunks ≤ 4194303)) }
 {
     let values = (count as u64).checked_add(more)?;
-    if values > MOST_VALUES {
+    let chunks = (values as usize).div_ceil(PLACES);
+    if chunks > MOST_CHUNKS {
         return None;
     }
-    Some((values as usize).div_ceil(PLACES))
-}
-
-/// Sees to it that there are so many chunks, as [`lengthen`] does.
-#[inline(always)]
-fn make_room<T>(chunks: &mut Vec<Chunk<T>>, alloc: Global, count: usize) -> Result<(), AllocError>
-    ensures ok { OnOk result (chunks.new.items ≡ chunks.old.items
-        ++ replicate (count - length chunks.old.items) []) }
-    ensures err { OnErr result (chunks.new.items ≡ chunks.old.items) }
-    ensures succeeds { count ≤ length chunks.old.items → IsOk result }
-{
-    if count <= chunks.len() {
-        return Ok(());
-    }
-    lengthen(chunks, alloc, count)
+    Some(chunks)
 }
 
 /// Adds chunks without values until there are so many. Refused for want of memory, those that it
 /// added are given back.
-#[cold]
-#[inline(never)]
 fn lengthen<T>(chunks: &mut Vec<Chunk<T>>, alloc: Global, count: usize) -> Result<(), AllocError>
     ensures ok { OnOk result (chunks.new.items ≡ chunks.old.items
         ++ replicate (count - length chunks.old.items) []) }

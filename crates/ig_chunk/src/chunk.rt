@@ -1,5 +1,5 @@
 //! A block of memory with a fixed number of places.
-ghost use Rattle.std.specs.Prelude.{◌≡◌, ◌<◌, [], ◌∷◌, ◌++◌, length, slice_get, IfOk};
+ghost use Rattle.std.specs.Prelude.{◌≡◌, ◌<◌, [], ◌∷◌, ◌++◌, length, slice_get, IfOk, Some};
 ghost use Rattle.std.specs.Option.{option_copied, option_copied_mut};
 ghost use Rattle.std.specs.Borrow.{sem};
 ghost use Rattle.ig_chunk.specs.ChunkLending.{lends_place};
@@ -50,6 +50,7 @@ impl<T> Chunk<T> {
     }
 
     /// Puts the value into the first free place, which has to be there. Takes no memory.
+    #[inline(always)]
     pub fn add(&mut self, value: T)
         requires { length self.old < 1024 }
         ensures { self.new ≡ self.old ++ value ∷ [] }
@@ -65,7 +66,16 @@ impl<T> Chunk<T> {
         if place >= self.filled {
             return None;
         }
-        Some(self.places.get(self.start, place))
+        Some(self.at(place))
+    }
+
+    /// The value in that place, which has to be there.
+    #[inline(always)]
+    pub fn at(&self, place: usize) -> &T
+        requires { place < length self.now }
+        ensures { slice_get self.now place ≡ Some result.now }
+    {
+        self.places.get(self.start, place)
     }
 
     /// The value in that place, for writing.

@@ -5,9 +5,7 @@ use Rattle.std.specs.Iterator.{YieldsFirstBy, MakesProgress, item_count}
 use Rattle.std.proofs.lemmas.List.{reverse-append, length-reverse, length_push}
 use Rattle.std.proofs.lemmas.Bool.{cases_eq}
 use Rattle.std.proofs.lemmas.Bool.Decides.{nat_tests}
-use Rattle.std.specs.Option.{option_copied}
-use Rattle.std.specs.Slice.{IsItemAt}
-use Rattle.std.proofs.lemmas.Option.{same_Some, slice_get_past, slice_get_read}
+use Rattle.std.proofs.lemmas.Option.{same_Some}
 use Rattle.ig_gss.specs.declared.chains.Cell.{Cell}
 use Rattle.ig_gss.specs.Chains.{chain, found, AreOnward}
 
@@ -22,11 +20,6 @@ yes t x y e = ap (λ z. if z then x else y) e
 
 no : {X : Type 0} (t : Bool) (x y : X) → t ≡ false → (if t then x else y) ≡ y
 no t x y e = ap (λ z. if z then x else y) e
-
--- what a slice lends at a place
-pub lent : {A : Type 0} (xs : List A) (k : ℕ) (o : Option (Bor A)) → IsItemAt xs k o → option_copied o ≡ slice_get xs k
-lent xs k None found = sym (slice_get_past xs k found.3)
-lent xs k (Some x) found = sym (slice_get_read xs (length xs) k x.now refl found.3.0 (found.3.1 x.now))
 
 module _ {T : Type 0} where
   -- the first cell of a list stands last where the latest comes first
@@ -127,6 +120,10 @@ module _ {T : Type 0} where
       let b = begins cs at p onward.1 (sym (no (nat_eq at (suc (length cs))) (Some c) (found cs at) f) ∙ e) in
       ((let l = b.0 in omega (arith, l)), no (nat_eq at (suc (length cs))) _ _ f ∙ b.1 ∙ ap (λ z. p.mark ∷ z) (sym (skips c cs p.earlier b.0))))
       (cases_eq at (suc (length cs)))
+
+  -- the place + 1 that a cell names is there
+  pub earlier_in : (xs : List (Cell T)) (at : ℕ) (c : Cell T) → AreOnward (reverse xs) → Some c ≡ found (reverse xs) at → c.earlier ≤ length xs
+  earlier_in xs at c onward is = let b = begins (reverse xs) at c onward (sym is) in let l = length-reverse xs in omega (arith, b.0, l)
 
   -- the chain that begins at a cell that was added, and each that was there
   pub new_chain : (xs : List (Cell T)) (c : Cell T) (at : ℕ) → at ≡ suc (length xs) →

@@ -6,7 +6,7 @@ ghost use Rattle.std.specs.Option.{option_copied};
 ghost use Rattle.std.specs.Iterator.{YieldsFirstBy, item_count};
 ghost use Rattle.ig_gss.specs.Chains.{cell, chain, found};
 
-use ig_item::number;
+use ig_arena::Arena;
 use std::alloc::{AllocError, Global};
 use std::marker::Model;
 
@@ -18,10 +18,13 @@ pub struct Cell<T> {
     pub earlier: u32,
 }
 
+/// The kind of the numbers of cells.
+pub struct Marks;
+
 /// Marks of nodes, in the order in which they came.
 #[derive(Drop)]
 pub struct Chains<T: Copy> {
-    cells: Vec<Cell<T>>,
+    cells: Arena<Marks, Cell<T>>,
 }
 
 impl<T: Copy> Model for Chains<T> {
@@ -31,9 +34,9 @@ impl<T: Copy> Model for Chains<T> {
 
     ghost Value = { List (stored.Cell T) };
 
-    ghost view = { λ s. s.cells.items };
+    ghost view = { λ s. s.cells.values };
 
-    ghost invariant = { λ s. AreOnward (reverse s.cells.items) };
+    ghost invariant = { λ s. AreOnward (reverse s.cells.values) };
 }
 
 impl<T: Copy> Chains<T> {
@@ -42,7 +45,7 @@ impl<T: Copy> Chains<T> {
         ensures { result ≡ [] }
     {
         Chains {
-            cells: Vec::new(alloc),
+            cells: Arena::new(alloc),
         }
     }
 
@@ -55,17 +58,18 @@ impl<T: Copy> Chains<T> {
         ensures place { IfOk result (λ place. place ≡ length self.new) }
         ensures refused { OnErr result (self.new ≡ self.old) }
     {
-        let place = number(self.cells.len() + 1)?;
-        self.cells.push(Cell { mark, earlier })?;
-        Ok(place)
+        self.cells.reserve(1)?;
+        let id = self.cells.push_reserved(Cell { mark, earlier });
+        Ok(id.number() + 1)
     }
 
     /// The latest mark of a node, which is at the place + 1 `last`; `None` where this is 0.
     #[inline(always)]
     pub fn last(&self, last: u32) -> Option<T>
+        requires { last ≤ length self.now }
         ensures { result ≡ slice_get (chain (reverse self.now) last) 0 }
     {
-        let cell = cell_at(self.cells.as_slice(), last)?;
+        let cell = cell_at(&self.cells, last)?;
         Some(cell.mark)
     }
 
@@ -73,42 +77,45 @@ impl<T: Copy> Chains<T> {
     /// memory.
     #[inline(always)]
     pub fn walk(&self, last: u32) -> Walk<'_, T>
+        requires { last ≤ length self.now }
         ensures { result ≡ chain (reverse self.now) last }
     {
         Walk {
-            cells: self.cells.as_slice(),
+            cells: &self.cells,
             at: last,
         }
     }
 }
 
-/// The cell at a place + 1; `None` exactly where there is none.
+/// The cell at a place + 1, which has to be there; `None` exactly where this is 0.
 #[inline(always)]
-fn cell_at<T>(cells: &[Cell<T>], at: u32) -> Option<&Cell<T>>
-    ensures { option_copied result ≡ found (reverse cells.now) at }
+fn cell_at<T>(cells: &Arena<Marks, Cell<T>>, at: u32) -> Option<&Cell<T>>
+    requires { at ≤ length cells.now.values }
+    ensures { option_copied result ≡ found (reverse cells.now.values) at }
 {
     if at == 0 {
         return None;
     }
-    cells.get(at as usize - 1)
+    Some(cells.at(at - 1))
 }
 
 /// The marks of a node that are left, the latest first.
 #[derive(Drop)]
 pub struct Walk<'a, T> {
-    cells: &'a [Cell<T>],
+    cells: &'a Arena<Marks, Cell<T>>,
     at: u32,
 }
 
 impl<'a, T> Model for Walk<'a, T> {
-    ghost use Rattle.std.specs.Prelude.{List, reverse};
+    ghost use Rattle.std.specs.Prelude.{List, ◌≤◌, length, reverse};
     ghost use Rattle.ig_gss.specs.Chains.{AreOnward, chain};
 
     ghost Value = { List T };
 
-    ghost view = { λ w. chain (reverse w.cells.now) w.at };
+    ghost view = { λ w. chain (reverse w.cells.now.values) w.at };
 
-    ghost invariant = { λ w. AreOnward (reverse w.cells.now) };
+    ghost invariant = { λ w. AreOnward (reverse w.cells.now.values)
+        × (w.at ≤ length w.cells.now.values) };
 }
 
 impl<'a, T> Iterator for Walk<'a, T> {

@@ -149,6 +149,21 @@ impl Stacks {
         if tops.rise(last, end) {
             return Ok(None);
         }
+        self.pop_in_table(node, end)
+    }
+
+    /// The same by the table of ends, into which the pops of the node are entered before. A
+    /// function of its own, so that the way that is mostly gone saves no registers.
+    #[inline(never)]
+    fn pop_in_table(&mut self, node: u32, end: u32) -> Result<Option<u32>, AllocError>
+        requires { node < length self.old }
+        ensures some { IfOk result (λ r. IfSome r (λ done.
+            Contains (pops_at self.old node) (ended end done))) }
+        ensures none { IfOk result (λ r. IfNone r (Contains (ends_at self.old node) end → ⊥)) }
+        ensures same { self.new ≡ self.old }
+    {
+        let at = node as usize;
+        let tops = self.tops[at];
         let pops = self.pops.walk(tops.pop);
         make_ready(&mut self.ends, node, pops, tops.is_indexed)?;
         self.tops[at].is_indexed = true;
@@ -171,6 +186,19 @@ impl Stacks {
             self.tops[at].pop = highest;
             return Ok(());
         }
+        self.add_to_table(node, pop)
+    }
+
+    /// The same, and it enters the pops of the node into the table of ends.
+    #[inline(never)]
+    fn add_to_table(&mut self, node: u32, pop: Pop) -> Result<(), AllocError>
+        requires node { node < length self.old }
+        requires is_new { Contains (ends_at self.old node) pop.end → ⊥ }
+        ensures ok { OnOk result (self.new ≡ with_pop self.old node pop) }
+        ensures refused { OnErr result (self.new ≡ self.old) }
+    {
+        let at = node as usize;
+        let tops = self.tops[at];
         let pops = self.pops.walk(tops.pop);
         make_ready(&mut self.ends, node, pops, tops.is_indexed)?;
         let place = self.pops.add(pop, tops.pop)?;

@@ -1,6 +1,5 @@
-use Rattle.std.proofs.Common.{◌≡◌, ◌<◌, length, vec_len, arith, rules, sym, subst, true≢false}
-use Rattle.std.specs.Prelude.{IfSome, IsOk}
-use Rattle.ig_gss.specs.Views.{AreStacks}
+use Rattle.std.proofs.Common.{◌≡◌, ◌<◌, length, vec_len, arith, rules, subst}
+use Rattle.std.specs.Prelude.{IfSome}
 use Rattle.ig_gss.proofs.Called as called
 use Rattle.ig_gss.proofs.stacks.Stacks.add_pop.Goals as goal
 
@@ -10,26 +9,17 @@ index-tops-requires c =
     let h : c.args.node < length c.self.inside.tops.items = called.inside _ _ _ _ _ c.self.invariant _ c.self.view_is _ c.requires.node in
     omega (arith, h, long)
 
+pub last-requires : goal.last-requires
+last-requires c = called.pop_in _ _ _ _ _ c.self.invariant _ c.self.view_is _ c.requires.node _ c.index-tops.ensures
+
+pub add-requires : goal.add-requires
+add-requires c = called.pop_in _ _ _ _ _ c.self.invariant _ c.self.view_is _ c.requires.node _ c.index-tops.ensures
+
 pub index_mut-requires : goal.index_mut-requires
 index_mut-requires c =
     let long : vec_len c.self.inside.tops ≡ length c.self.inside.tops.items = search rules in
     let h : c.args.node < length c.self.inside.tops.items = called.inside _ _ _ _ _ c.self.invariant _ c.self.view_is _ c.requires.node in
     omega (arith, h, long)
-
-pub index_mut-requires-2 : goal.index_mut-requires-2
-index_mut-requires-2 c =
-    let long : vec_len c.self.inside.tops ≡ length c.self.inside.tops.items = search rules in
-    let h : c.args.node < length c.self.inside.tops.items = called.inside _ _ _ _ _ c.self.invariant _ c.self.view_is _ c.requires.node in
-    omega (arith, h, long)
-
-pub add-requires : goal.add-requires
-add-requires c = called.pop_in _ _ _ _ _ c.self.invariant _ c.self.view_is _ c.requires.node _ c.index-tops.ensures
-
-pub add-requires-2 : goal.add-requires-2
-add-requires-2 c = called.pop_in _ _ _ _ _ c.self.invariant _ c.self.view_is _ c.requires.node _ c.index-tops.ensures
-
-pub make_ready-requires : goal.make_ready-requires
-make_ready-requires c flag = called.had _ _ _ _ _ c.self.invariant _ c.self.view_is _ c.requires.node _ c.index-tops.ensures _ c.walk-pops.ensures flag
 
 pub invariant_of-self-then-rise : goal.invariant_of-self-then-rise
 invariant_of-self-then-rise c =
@@ -40,24 +30,3 @@ invariant_of-self-then-rise c =
 pub returns-then-rise-clause-ok : goal.returns-then-rise-clause-ok
 returns-then-rise-clause-ok c =
     called.rising_shows _ _ _ _ _ c.self.invariant _ c.self.view_is _ c.requires.node _ c.index-tops.ensures c.args.pop _ c.index_mut.ensures.value c.in_ok-highest.highest _ c.in_ok-highest.ensures.added c.in_ok-highest.ensures.place
-
-pub invariant_of-self-in_err-make_ready : goal.invariant_of-self-in_err-make_ready
-invariant_of-self-in_err-make_ready c = called.ends_keep _ _ _ _ _ c.self.invariant _ c.self.view_is _ c.requires.node _ c.index-tops.ensures _ _ c.walk-pops.ensures c.in_err-make_ready.ensures.grows
-
-pub invariant_of-self-in_err-place : goal.invariant_of-self-in_err-place
-invariant_of-self-in_err-place c =
-    subst (λ z. AreStacks c.self.inside.keys c.self.inside.tops.items c.self.inside.edges z c.make_ready.new.ends.entries) (sym c.in_err-place.ensures.refused)
-    (called.ends_keep _ _ _ _ _ c.self.invariant _ c.self.view_is _ c.requires.node _ c.index-tops.ensures _ _ c.walk-pops.ensures c.in_ok-make_ready.ensures.grows)
-
-pub invariant_of-self-2 : goal.invariant_of-self-2
-invariant_of-self-2 c =
-    called.falling_keeps _ _ _ _ _ c.self.invariant _ c.self.view_is _ c.requires.node _ c.index-tops.ensures _ _ c.walk-pops.ensures c.in_ok-make_ready.ensures.grows c.in_ok-make_ready.ensures.all c.args.pop c.in_ok-place.place _ c.in_ok-place.ensures.added c.in_ok-place.ensures.place c.requires.is_new _ c.in_ok-insert.ensures.entries
-
-pub returns-clause-ok : goal.returns-clause-ok
-returns-clause-ok c = called.falling_shows _ _ _ _ _ c.self.invariant _ c.self.view_is _ c.requires.node _ c.index-tops.ensures _ _ c.walk-pops.ensures c.in_ok-make_ready.ensures.grows c.in_ok-make_ready.ensures.all c.args.pop c.in_ok-place.place _ c.in_ok-place.ensures.added c.in_ok-place.ensures.place c.requires.is_new
-
-pub invariant_of-self-in_err-insert : goal.invariant_of-self-in_err-insert
-invariant_of-self-in_err-insert c = absurd (true≢false (sym (subst IsOk c.in_err-insert.was (c.insert.ensures.succeeds c.in_ok-make_ready.ensures.room))))
-
-pub returns-in_err-insert-clause-refused : goal.returns-in_err-insert-clause-refused
-returns-in_err-insert-clause-refused c = absurd (true≢false (sym (subst IsOk c.in_err-insert.was (c.insert.ensures.succeeds c.in_ok-make_ready.ensures.room))))
