@@ -2,8 +2,8 @@
 //!
 //! `parsing` parses, and tries parsers; its forests are walked and asked in `listings` and
 //! `queries`. The passes, the crates of their parts included, run there inside a parser, once over
-//! each form of symbol. `runs` goes by schedules of its own. Tests of libraries by themselves stand
-//! in `ig_tests`, those of commands in `ig_tests_command`.
+//! each form of symbol. `runs` goes by schedules of its own, and in `turns` two parses take turns.
+//! Tests of libraries by themselves stand in `ig_tests`, those of commands in `ig_tests_command`.
 #![tactic(auto)]
 
 #[cfg(test)]
@@ -14,3 +14,5 @@ mod parsing;
 mod queries;
 #[cfg(test)]
 mod runs;
+#[cfg(test)]
+mod turns;
