@@ -2,100 +2,106 @@
 // nodes and quoted strings with names are left out.
 start Structure;
 
-// Expressions. Each level is a name of its own, the one that binds loosest first.
-syntax Sequence = {Expression ";"}+ ";"?;
-syntax Expression = Tuple | Tuple ":=" Expression | Tuple "<-" !>> [!$%&*+\-./:<=>?@\^|~] Expression;
-syntax Tuple = {Or ","}+;
-syntax Or = And | And OrSign Or;
-syntax And = Comparison | Comparison AndSign And;
-syntax Comparison = Joined | Comparison ComparisonSign Joined;
-syntax Joined = Cons | Cons JoinedSign Joined;
-syntax Cons = Sum | Sum "::" Cons;
-syntax Sum = Product | Sum SumSign Product;
-syntax Product = Power | Product ProductSign Power;
-syntax Power = Negation | Negation PowerSign Power;
-syntax Negation = Application | MinusSign Negation | BeforeWord Keyworded;
-// What these cover goes as far as it can: no operator, and no `;`, may stand after it.
+// What stands behind `Nothing !>> [^..]` is tried only where the next character is one of these.
+syntax Nothing = ;
+
+// Expressions, with operators of a level or tighter ones: 1 is `;`, 2 assignments, 3 commas, 4 `||`, 5 `&&`, 6 comparisons,
+// 7 `@` and `^`, 8 `::`, 9 sums, 10 products, 11 powers.
+syntax Expression(loosest: int) = Operand | Operand !>> [^;,:<|o&=>$!@\^+\-*/%mla] Operation(loosest, 11);
+// An operator between these levels, its right operand, and then no operators that are tighter than it.
+syntax Operation(loosest: int, tightest: int)
+    = Nothing !>> [^;,] Separated(loosest, tightest) | Nothing !>> [;,] Infix(loosest, tightest);
+syntax Separated(loosest: int, tightest: int)
+    = when ((loosest <= 1) and (1 <= tightest)) ";" (Expression(2) Rest(loosest, 1))?
+    | when ((loosest <= 3) and (3 <= tightest)) "," Expression(4) Rest(loosest, 3);
+syntax Infix(loosest: int, tightest: int)
+    = when ((loosest <= 2) and (2 <= tightest)) (":=" | "<-" !>> [!$%&*+\-./:<=>?@\^|~]) Expression(2) Rest(loosest, 1)
+    | when ((loosest <= 4) and (4 <= tightest)) OrSign Expression(4) Rest(loosest, 3)
+    | when ((loosest <= 5) and (5 <= tightest)) AndSign Expression(5) Rest(loosest, 4)
+    | when ((loosest <= 6) and (6 <= tightest)) ComparisonSign Expression(7) Rest(loosest, 6)
+    | when ((loosest <= 7) and (7 <= tightest)) JoinedSign Expression(7) Rest(loosest, 6)
+    | when ((loosest <= 8) and (8 <= tightest)) "::" Expression(8) Rest(loosest, 7)
+    | when ((loosest <= 9) and (9 <= tightest)) SumSign Expression(10) Rest(loosest, 9)
+    | when ((loosest <= 10) and (10 <= tightest)) ProductSign Expression(11) Rest(loosest, 10)
+    | when ((loosest <= 11) and (11 <= tightest)) PowerSign Expression(11) Rest(loosest, 10);
+syntax Rest(loosest: int, tightest: int) = | Nothing !>> [^;,:<|o&=>$!@\^+\-*/%mla] Operation(loosest, tightest);
+syntax Operand
+    = Simple | Simple !>> [)\]};,|=\->+*/<@\^&:.%$] Argument+
+    | Nothing !>> [^+\-lfmtia] Prefixed;
+syntax Prefixed = Nothing !>> [+\-] Keyworded | Nothing !>> [^+\-] MinusSign Operand;
+// What these cover goes as far as it can: no operator, and no `;`, may stand after it. Whether one does is asked once a place.
 syntax Keyworded
-    = Open !>> [;,+\-*/%=<>@\^&$#] !>> "||" !>> ":=" !>> "::" !>> "mod " !>> "land " !>> "lor " !>> "lsl " !>> "lsr "
-    | Cases !>> [;,+\-*/%=<>@\^&$#|] !>> ":=" !>> "::" !>> "mod " !>> "land " !>> "lor " !>> "lsl " !>> "lsr "
-    | If !>> [,+\-*/%=<>@\^&$#] !>> "||" !>> ":=" !>> "::" !>> "mod " !>> "land " !>> "lor " !>> "lsl " !>> "lsr ";
-syntax Application
-    = Simple | Simple BeforeArgument Argument+
+    = Nothing !>> [^lf] Open !>> ";" !>> "||" Ended
+    | Nothing !>> [^mtf] Cases !>> [;|] Ended
+    | Nothing !>> [^i] If !>> "||" Ended
     | "assert" !>> [a-zA-Z0-9_'] Simple | "lazy" !>> [a-zA-Z0-9_'] Simple;
-syntax Argument = Simple | BeforeLabel LabelledArgument;
+syntax Ended = Nothing !>> [,+\-*/%=<>@\^&$#] !>> ":=" !>> "::" !>> "mod " !>> "land " !>> "lor " !>> "lsl " !>> "lsr ";
+syntax Argument = Simple | Nothing !>> [^~?] LabelledArgument;
 syntax LabelledArgument
     = Label Simple | OptionalLabel Simple
     | "~" LowercaseName !>> ":" | "?" LowercaseName !>> ":";
-// These take nothing: they look at the next character, so that what can't stand there isn't tried.
-syntax Nothing = ;
-syntax BeforeArgument = Nothing !>> [)\]};,|=\->+*/<@\^&:.%$];
-syntax BeforeLabel = Nothing !>> [^~?];
-syntax BeforeCapital = Nothing !>> [^A-Z];
-syntax BeforeSign = Nothing !>> [a-zA-Z_];
-syntax BeforePrefix = Nothing !>> [^!~?];
-syntax BeforeWord = Nothing !>> [^a-z];
 
 syntax Open
-    = "let" !>> [a-zA-Z0-9_'] Attribute? ("rec" !>> [a-zA-Z0-9_'])? {Binding "and"}+ "in" !>> [a-zA-Z0-9_'] Sequence
-    | "let" !>> [a-zA-Z0-9_'] "open" !>> [a-zA-Z0-9_'] "!"? ModuleExpression "in" !>> [a-zA-Z0-9_'] Sequence
-    | "let" !>> [a-zA-Z0-9_'] "module" !>> [a-zA-Z0-9_'] CapitalName ModuleParameter* (":" ModuleType)? "=" ModuleExpression
-        "in" !>> [a-zA-Z0-9_'] Sequence
-    | "let" !>> [a-zA-Z0-9_'] "exception" !>> [a-zA-Z0-9_'] ConstructorDeclaration "in" !>> [a-zA-Z0-9_'] Sequence
-    | "fun" !>> [a-zA-Z0-9_'] Attribute? Parameter+ (":" SimpleType)? "->" Sequence;
+    = "let" !>> [a-zA-Z0-9_'] Let "in" !>> [a-zA-Z0-9_'] Expression(1)
+    | "fun" !>> [a-zA-Z0-9_'] Attribute? Parameter+ (":" SimpleType)? "->" Expression(1);
+syntax Let
+    = Attribute? ("rec" !>> [a-zA-Z0-9_'])? {Binding "and"}+
+    | Nothing !>> [^ome] LetModule;
+syntax LetModule
+    = "open" !>> [a-zA-Z0-9_'] "!"? ModuleExpression
+    | "module" !>> [a-zA-Z0-9_'] CapitalName ModuleParameter* (":" ModuleType)? "=" ModuleExpression
+    | "exception" !>> [a-zA-Z0-9_'] ConstructorDeclaration;
 syntax Cases
-    = "match" !>> [a-zA-Z0-9_'] Attribute? Sequence "with" !>> [a-zA-Z0-9_'] "|"? {Case "|"}+
-    | "try" !>> [a-zA-Z0-9_'] Attribute? Sequence "with" !>> [a-zA-Z0-9_'] "|"? {Case "|"}+
+    = "match" !>> [a-zA-Z0-9_'] Attribute? Expression(1) "with" !>> [a-zA-Z0-9_'] "|"? {Case "|"}+
+    | "try" !>> [a-zA-Z0-9_'] Attribute? Expression(1) "with" !>> [a-zA-Z0-9_'] "|"? {Case "|"}+
     | "function" !>> [a-zA-Z0-9_'] Attribute? "|"? {Case "|"}+;
-syntax Case = Pattern ("when" !>> [a-zA-Z0-9_'] Sequence)? "->" (Sequence | ".");
+syntax Case = Pattern ("when" !>> [a-zA-Z0-9_'] Expression(1))? "->" (Expression(1) | ".");
 syntax If
-    = "if" !>> [a-zA-Z0-9_'] Attribute? Sequence "then" !>> [a-zA-Z0-9_'] Expression "else" !>> [a-zA-Z0-9_'] Expression
-    | ("if" !>> [a-zA-Z0-9_'] Attribute? Sequence "then" !>> [a-zA-Z0-9_'] Expression) !>> "else";
+    = "if" !>> [a-zA-Z0-9_'] Attribute? Expression(1) "then" !>> [a-zA-Z0-9_'] Expression(2) "else" !>> [a-zA-Z0-9_'] Expression(2)
+    | ("if" !>> [a-zA-Z0-9_'] Attribute? Expression(1) "then" !>> [a-zA-Z0-9_'] Expression(2)) !>> "else";
 
 syntax Binding
-    = ValueName Parameter* (":" PolymorphicType)? (":>" Type)? "=" Sequence ItemAttribute*
-    | ValueName ":" "type" !>> [a-zA-Z0-9_'] LowercaseName+ "." Type "=" Sequence ItemAttribute*
-    | CompoundPattern (":" Type)? "=" Sequence ItemAttribute*;
+    = ValueName Parameter* (":" PolymorphicType)? (":>" Type)? "=" Expression(1) ItemAttribute*
+    | ValueName ":" "type" !>> [a-zA-Z0-9_'] LowercaseName+ "." Type "=" Expression(1) ItemAttribute*
+    | CompoundPattern (":" Type)? "=" Expression(1) ItemAttribute*;
 syntax Parameter
     = SimplePattern
     | "(" "type" !>> [a-zA-Z0-9_'] LowercaseName+ ")"
     | "~" LowercaseName !>> ":" | "?" LowercaseName !>> ":"
     | "~" "(" LowercaseName (":" Type)? ")"
-    | "?" "(" LowercaseName (":" Type)? ("=" Sequence)? ")"
+    | "?" "(" LowercaseName (":" Type)? ("=" Expression(1))? ")"
     | Label SimplePattern | OptionalLabel SimplePattern
-    | OptionalLabel "(" Pattern (":" Type)? "=" Sequence ")";
+    | OptionalLabel "(" Pattern (":" Type)? "=" Expression(1) ")";
 
-syntax Simple
-    = Prefixed
-    | Simple "." FieldPath
-    | Simple ".(" Sequence ")" | Simple ".[" Sequence "]" | Simple ".{" Sequence "}"
-    | Simple HashSign Prefixed
-    | Simple Attribute;
-syntax Prefixed = Closed | BeforePrefix PrefixSign Prefixed;
-syntax Closed = LowercaseName | BeforeCapital Capital | BeforeSign Bracketed | BeforeWord Worded;
+syntax Simple = Closed | Simple !>> [^.#\[] Suffix;
+syntax Suffix = "." FieldPath | ".(" Expression(1) ")" | ".[" Expression(1) "]" | ".{" Expression(1) "}" | HashSign Closed | Attribute;
+syntax Closed = LowercaseName | Nothing !>> [_acdeg-suvx-z] Nameless;
+syntax Nameless = Nothing !>> [a-zA-Z] Bracketed | Nothing !>> [^A-Z] Capital | Nothing !>> [^tfbw] Worded;
 syntax Capital
     = ModulePath "." ValueName
     | CapitalName !>> "." | ModulePath "." ConstructorName !>> "."
-    | ModulePath ".(" Sequence ")" | ModulePath ".[" {Expression ";"}+ ";"? "]" | ModulePath ".{" Fields "}" | ModulePath ".(" ")";
+    | ModulePath ".(" Expression(1) ")" | ModulePath ".[" {Expression(2) ";"}+ ";"? "]" | ModulePath ".{" Fields "}" | ModulePath ".(" ")";
 syntax Bracketed
-    = Constant
-    | "(" OperatorName ")" | "(" "::" ")"
+    = Nothing !>> [^0-9'"{] Constant
+    | Nothing !>> [^!~?] PrefixSign Closed
+    | "(" Parenthesized
     | "`" CapitalOrLowercase
-    | "(" ")"
-    | "(" Sequence (":" Type)? (":>" Type)? ")"
-    | "[" "]" | "[" {Expression ";"}+ ";"? "]"
-    | "[|" "|]" | "[|" {Expression ";"}+ ";"? "|]"
-    | "{" Fields "}" | "{" Simple "with" !>> [a-zA-Z0-9_'] Fields "}"
-    | "(" "module" !>> [a-zA-Z0-9_'] ModuleExpression (":" ModuleType)? ")";
+    | "[" ({Expression(2) ";"}+ ";"?)? "]" | "[|" ({Expression(2) ";"}+ ";"?)? "|]"
+    | "{" Fields "}" | "{" Simple "with" !>> [a-zA-Z0-9_'] Fields "}";
+syntax Parenthesized
+    = ")"
+    | Nothing !>> [^!$%&*+\-/<=>?@\^|~:mlao.] OperatorName ")" | "::" ")"
+    | Expression(1) (":" Type)? (":>" Type)? ")"
+    | "module" !>> [a-zA-Z0-9_'] ModuleExpression (":" ModuleType)? ")";
 syntax Worded
     = ("true" !>> [a-zA-Z0-9_'] | "false" !>> [a-zA-Z0-9_'])
     | "begin" !>> [a-zA-Z0-9_'] "end" !>> [a-zA-Z0-9_']
-    | "begin" !>> [a-zA-Z0-9_'] Attribute? Sequence "end" !>> [a-zA-Z0-9_']
-    | "while" !>> [a-zA-Z0-9_'] Sequence "do" !>> [a-zA-Z0-9_'] Sequence "done" !>> [a-zA-Z0-9_']
-    | "for" !>> [a-zA-Z0-9_'] Pattern "=" Sequence ("to" !>> [a-zA-Z0-9_'] | "downto" !>> [a-zA-Z0-9_']) Sequence
-        "do" !>> [a-zA-Z0-9_'] Sequence "done" !>> [a-zA-Z0-9_'];
+    | "begin" !>> [a-zA-Z0-9_'] Attribute? Expression(1) "end" !>> [a-zA-Z0-9_']
+    | "while" !>> [a-zA-Z0-9_'] Expression(1) "do" !>> [a-zA-Z0-9_'] Expression(1) "done" !>> [a-zA-Z0-9_']
+    | "for" !>> [a-zA-Z0-9_'] Pattern "=" Expression(1) ("to" !>> [a-zA-Z0-9_'] | "downto" !>> [a-zA-Z0-9_']) Expression(1)
+        "do" !>> [a-zA-Z0-9_'] Expression(1) "done" !>> [a-zA-Z0-9_'];
 syntax Fields = {Field ";"}+ ";"?;
-syntax Field = FieldPath (":" Type)? ("=" !>> [!$%&*+\-./:<=>?@\^|~] Expression)?;
+syntax Field = FieldPath (":" Type)? ("=" !>> [!$%&*+\-./:<=>?@\^|~] Expression(2))?;
 
 // Patterns.
 // `p as x` may stand before a comma or a bar, and after none: there `as` takes all before it.
@@ -113,15 +119,20 @@ syntax ConstructorPattern
 syntax SimplePattern = ValueName | NamelessPattern;
 syntax NamelessPattern
     = "_" !>> [a-zA-Z0-9_']
-    | SignedConstant | SignedConstant ".." SignedConstant
-    | ConstructorPath | "`" CapitalOrLowercase | "#" TypePath
-    | "(" ")" | "(" Pattern (":" Type)? ")"
+    | Nothing !>> [^A-Ztf(] ConstructorPath
+    | Nothing !>> [a-zA-Z_] BracketedPattern
+    | Nothing !>> [^A-Z] ModulePath ".(" Pattern ")"
+    | SimplePattern Attribute;
+syntax BracketedPattern
+    = SignedConstant | SignedConstant ".." SignedConstant
+    | "`" CapitalOrLowercase | "#" TypePath
+    | "(" ParenthesizedPattern
     | "[" "]" | "[" {Pattern ";"}+ ";"? "]"
     | "[|" "|]" | "[|" {Pattern ";"}+ ";"? "|]"
-    | "{" {FieldPattern ";"}+ (";" "_" !>> [a-zA-Z0-9_'])? ";"? "}"
-    | ModulePath ".(" Pattern ")"
-    | "(" "module" !>> [a-zA-Z0-9_'] (CapitalName | "_") (":" ModuleType)? ")"
-    | SimplePattern Attribute;
+    | "{" {FieldPattern ";"}+ (";" "_" !>> [a-zA-Z0-9_'])? ";"? "}";
+syntax ParenthesizedPattern
+    = ")" | Pattern (":" Type)? ")"
+    | "module" !>> [a-zA-Z0-9_'] (CapitalName | "_") (":" ModuleType)? ")";
 syntax FieldPattern = FieldPath (":" Type)? ("=" Pattern)?;
 // A pattern that isn't a name alone, as in `let (a, b) = ..`.
 syntax CompoundPattern
@@ -165,7 +176,9 @@ syntax FieldDeclaration = ("mutable" !>> [a-zA-Z0-9_'])? LowercaseName ":" Polym
 syntax Structure = Definition*;
 syntax Definition
     = "let" !>> [a-zA-Z0-9_'] Attribute? ("rec" !>> [a-zA-Z0-9_'])? {Binding "and"}+
-    | "open" !>> [a-zA-Z0-9_'] "!"? ModuleExpression ItemAttribute*
+    | Nothing !>> [^eimot\[] OtherDefinition;
+syntax OtherDefinition
+    = "open" !>> [a-zA-Z0-9_'] "!"? ModuleExpression ItemAttribute*
     | "include" !>> [a-zA-Z0-9_'] ModuleExpression ItemAttribute*
     | "module" !>> [a-zA-Z0-9_'] {ModuleBinding "and"}+
     | "module" !>> [a-zA-Z0-9_'] "rec" !>> [a-zA-Z0-9_'] {ModuleBinding "and"}+
@@ -194,7 +207,7 @@ syntax ModuleExpression
     | "functor" !>> [a-zA-Z0-9_'] ModuleParameter+ "->" ModuleExpression
     | ModuleExpression "(" ModuleExpression ")" | ModuleExpression "(" ")"
     | "(" ModuleExpression (":" ModuleType)? ")"
-    | "(" "val" !>> [a-zA-Z0-9_'] Sequence (":" ModuleType)? ")";
+    | "(" "val" !>> [a-zA-Z0-9_'] Expression(1) (":" ModuleType)? ")";
 syntax ModuleType
     = ModuleTypePath
     | "sig" !>> [a-zA-Z0-9_'] Specification* "end" !>> [a-zA-Z0-9_']
@@ -209,7 +222,7 @@ syntax ModuleConstraint
 // Attributes.
 syntax Attribute = "[@" !>> "@" AttributeName Payload "]";
 syntax ItemAttribute = "[@@" !>> "@" AttributeName Payload "]";
-syntax Payload = Sequence? | ":" Type;
+syntax Payload = Expression(1)? | ":" Type;
 lexical AttributeName = {Word "."}+;
 
 // Names.
@@ -259,7 +272,7 @@ lexical OperatorName
 
 // Constants.
 syntax SignedConstant = Constant | "-" !>> [!$%&*+\-./:<=>?@\^|~] Number;
-syntax Constant = Number | Character | String;
+syntax Constant = Nothing !>> [^0-9] Number | Nothing !>> [^'] Character | Nothing !>> [^"{] String;
 lexical Number = Digits [g-oq-zG-OQ-Z]? !>> [a-zA-Z0-9_'.];
 lexical Digits
     = [0-9] [0-9_]* Fraction?
@@ -277,9 +290,9 @@ lexical Hex = [0-9a-fA-F];
 
 // Blanks and comments, which nest, and in which strings are strings; `;;` between definitions, and lines that say
 // where a generated file comes from, are left out like these.
-layout Layout = Blanks ((Comment | ";;" | LineMark) Blanks)* !>> "(*" !>> ";;";
+layout Layout = LeftOut !>> [ \t\n\r] !>> "(*";
+lexical LeftOut = | LeftOut [ \t\n\r] | LeftOut !>> [^(;#] (Comment | ";;" | LineMark);
 lexical LineMark = "#" [0-9] [^\n]* !>> [^\n];
-lexical Blanks = [ \t\n\r]* !>> [ \t\n\r];
 lexical Comment = "(*" Words ((Comment | String | Quote | "(" !>> "*" | "*" !>> ")") Words)* "*)";
 lexical Words = [^(*"']* !>> [^(*"'];
 // A quote that begins no string, and one that isn't one.
