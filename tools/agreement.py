@@ -37,6 +37,7 @@ MOST_CURSOR = 100_000  # bytes of a cursor that is given as a word; Linux takes 
 MOST_HEIGHT = 12
 PER_FOREST = 40_000  # lines that are read here
 MOST_JOBS = 4  # of other cases in a list
+ORDERS = ("lifo", "lowest", "plain")  # beside that without the option
 
 
 class Case:
@@ -107,7 +108,9 @@ class Case:
             self.flaw("forest", said)
         elif said.status == BUDGET and said.notes != b"budget: more than %d items\n" % budget:
             self.flaw("another budget", said)
-        elif said.status != DONE:
+        for order in ORDERS:
+            self.same(f"another end by --order={order}", self.run("forest", "g", "i", *self.options, f"--order={order}"), said)
+        if said.status != DONE:
             words = self.draw.choice((("trees",), ("query",), ("query", "--what=cyclic"), ("query", "--what", "report")))
             self.same("another end than forest", self.run(*words, "g", "i", *self.options), said)
         elif said.out.count(b"\n") <= PER_FOREST:
