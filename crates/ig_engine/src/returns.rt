@@ -56,7 +56,9 @@ fn add_behind_call<S: Schedule + Drop>(
 }
 
 /// Adds the item behind the call before which the item of the edge stands, for a callee that ended
-/// at `end` and is named by the complete item `done`.
+/// at `end` and is named by the complete item `done`. Inlined into both walks, since an ambiguous
+/// text has far more pairs of an edge and a pop than items.
+#[inline(always)]
 fn return_to<S: Schedule + Drop>(
     context: &Context<'_>,
     envs: &mut IndexSet<Values>,
