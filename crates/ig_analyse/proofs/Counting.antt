@@ -1,14 +1,14 @@
 -- A work list that makes numbers by rules.
-use Rattle.std.proofs.Common.{◌≡◌, ◌↔◌, ◌⊎◌, inl, inr, ◌∙◌, ℕ, zero, suc, ◌+◌, ◌-◌, ◌<◌, ◌≤◌, List, [], ◌∷◌, ◌++◌, Some, None, Bool, true, false, Contains, length, take, drop, get_or, set, replicate, slice_get, refl, sym, ap, subst, arith, length-set, append_assoc}
+use Rattle.std.proofs.Common.{◌≡◌, ◌↔◌, ◌⊎◌, inl, inr, ◌∙◌, ℕ, zero, suc, ◌+◌, ◌-◌, ◌<◌, ◌≤◌, List, [], ◌∷◌, ◌++◌, Some, None, Bool, true, false, Contains, length, take, get_or, set, replicate, slice_get, refl, sym, ap, subst, arith, length-set, append_assoc}
 use Rattle.std.specs.Prelude.{◌==◌, if◌then◌else◌}
-use Rattle.std.proofs.lemmas.List.{length-replicate, length_push, get_or-set_same, get_or-set_other, get_or_push, get_or_append_left, append-nil, take_more, take_all, length-take-le}
-use Rattle.std.proofs.lemmas.List.Elements.{Contains-append_left}
+use Rattle.std.proofs.lemmas.List.{length-replicate, length_push, get_or-set_same, get_or-set_other, get_or_push, get_or_append_left, append-nil, take_all, length-take-le}
+use Rattle.std.proofs.lemmas.List.Elements.{Contains-append_left, Contains-append_right}
 use Rattle.std.proofs.lemmas.Bool.{cases_eq}
 use Rattle.std.proofs.lemmas.Bool.Decides.{nat_tests}
 use Rattle.std.proofs.lemmas.Option.{slice_get_within, slice_get-get_or, get_or_from_slice_get, same_Some}
 use Rattle.std.proofs.Math.Seq.{take-append_seam}
 use Rattle.ig_text.proofs.Orders.{le_or_lt, below_or_at}
-use Rattle.ig_text.proofs.Lists.{none_in_nil, contains_from_at, contains_first, contains_later, in_rest, in_pushed, past_end, place_last, split_at, take_at}
+use Rattle.ig_text.proofs.Lists.{none_in_nil, contains_from_at, contains_first, contains_later, in_rest, in_pushed, past_end, place_last, take_at}
 use Rattle.ig_analyse.specs.Marks.{is_marked, count_marks}
 use Rattle.ig_analyse.specs.Rules.{IsDerived, derive, occurs, AreInside, AreUsers, Marking, Uses, AreMade, IsWork, used_by, IsUsing, Begins, added_users, MarkDerived}
 use Rattle.ig_analyse.specs.declared.rules.Rule.{Rule}
@@ -287,6 +287,12 @@ at_middle : (xs : List ℕ) (x : ℕ) (ys : List ℕ) → slice_get (xs ++ x ∷
 at_middle [] x ys = refl
 at_middle (y ∷ xs) x ys = at_middle xs x ys
 
+-- one of the users that are left is a rule
+pub user_inside : (rules : List Rule) (count : ℕ) (users : List (List ℕ)) (now : Work) (base : List ℕ) (n k : ℕ) (left : List ℕ) →
+    AreUsers count rules users → IsUsing rules count users now base n (k ∷ left) → k < length rules
+user_inside rules count users now base n k left a s =
+    a.inside n k (s.used ++ k ∷ left) s.there (Contains-append_right s.used (k ∷ left) k (contains_first k left))
+
 -- the users of a number, one after another
 module _ (count : ℕ) (rules : List Rule) (users : List (List ℕ)) (a : AreUsers count rules users) (inside : AreInside count rules) where
   found_inside : (work : Work) (to : ℕ) (used : ℕ → ℕ) → IsWork rules count to work used → (n : ℕ) → Contains work.found.items n → n < count
@@ -300,53 +306,44 @@ module _ (count : ℕ) (rules : List Rule) (users : List (List ℕ)) (a : AreUse
       marked_inside (x ∷ xs) (suc k) e = let l = marked_inside xs k e in omega (arith, l)
 
   -- no rule was used more often than its callees are found
-  used_found : (work : Work) (base : List ℕ) (n : ℕ) (row : List ℕ) (i j : ℕ) (rule : Rule) → IsUsing rules count users work base n row i →
-      slice_get users n ≡ Some row → slice_get rules j ≡ Some rule →
-      used_by users base j + occurs j row ≤ met work.found.items rule.callees
-  used_found work base n row i j rule s there at =
+  used_found : (work : Work) (base : List ℕ) (n j : ℕ) (left : List ℕ) (rule : Rule) (s : IsUsing rules count users work base n left) →
+      slice_get rules j ≡ Some rule → used_by users base j + occurs j (s.used ++ left) ≤ met work.found.items rule.callees
+  used_found work base n j left rule s at =
       let w = s.work in
       let m = uses_met count rules users a work.found.items j rule (found_inside work (length rules) _ w) at in
       let p = ap (λ z. used_by users z j) s.parted ∙ used_append users base (n ∷ s.behind) j in
-      let r = ap (occurs j) (read_row there) in omega (arith, m, p, r)
-    where
-      read_row : slice_get users n ≡ Some row → get_or users n [] ≡ row
-      read_row e = get_or_from_slice_get users n row [] e
+      let r = ap (occurs j) (get_or_from_slice_get users n (s.used ++ left) [] s.there) in omega (arith, m, p, r)
 
-  pub using_more : (old new : Work) (base : List ℕ) (n : ℕ) (row : List ℕ) (i k : ℕ) → IsUsing rules count users old base n row i →
-      slice_get users n ≡ Some row → i < length row → k ≡ get_or row i k → Uses rules k old new →
-      IsUsing rules count users new base n row (i + 1)
-  using_more old new base n row i k s there l read u =
-      let taken : take (i + 1) row ≡ take i row ++ k ∷ [] = take_more row i k l ∙ ap (λ z. take i row ++ z ∷ []) (sym read) in
-      let uses : (j : ℕ) → occurs j (take (i + 1) row) ≡ occurs j (take i row) + occurs j (k ∷ []) =
-      (λ j. ap (occurs j) taken ∙ occurs_append j (take i row) (k ∷ [])) in
-      let among : Contains row k = contains_from_at row i k (slice_get-get_or row i k l ∙ ap Some (sym read)) in
-      let below = a.inside n k row there among in
+  pub using_more : (old new : Work) (base : List ℕ) (n k : ℕ) (left : List ℕ) → IsUsing rules count users old base n (k ∷ left) →
+      Uses rules k old new → IsUsing rules count users new base n left
+  using_more old new base n k left s u =
+      let uses : (j : ℕ) → occurs j (s.used ++ k ∷ []) ≡ occurs j s.used + occurs j (k ∷ []) =
+      (λ j. occurs_append j s.used (k ∷ [])) in
       let g =
-      uses_goes rules count (length rules) k old new (λ j. used_by users base j + occurs j (take i row))
-      (λ j. used_by users base j + occurs j (take (i + 1) row)) s.work u inside below
+      uses_goes rules count (length rules) k old new (λ j. used_by users base j + occurs j s.used)
+      (λ j. used_by users base j + occurs j (s.used ++ k ∷ [])) s.work u inside (user_inside rules count users old base n k left a s)
       (let x = uses k in let y = occurs_here k k [] refl in omega (arith, x, y))
       (λ j other. let x = uses j in let y = occurs_later j k [] other in omega (arith, x, y))
       (λ few m c. all_met old.found.items u.rule.callees s.work.made.once
-      (let f = used_found old base n row i k u.rule s there u.there in
-      let x = uses k in
-      let y = occurs_here k k [] refl in
-      let z = occurs_take k row (i + 1) in omega (arith, few, f, x, y, z)) m c) in
+      (let f = used_found old base n k (k ∷ left) u.rule s u.there in
+      let x = occurs_append k s.used (k ∷ left) in
+      let y = occurs_here k k left refl in omega (arith, few, f, x, y)) m c) in
       record {
+        used = s.used ++ k ∷ [];
+        there = s.there ∙ ap Some (sym (append_assoc s.used (k ∷ []) left));
         work = g.work;
         behind = s.behind ++ g.added;
         parted = g.pushed ∙ ap (λ z. z ++ g.added) s.parted ∙ append_assoc base (n ∷ s.behind) g.added;
       }
-    where
-      occurs_take : (j : ℕ) (xs : List ℕ) (i : ℕ) → occurs j (take i xs) ≤ occurs j xs
-      occurs_take j xs i =
-          let p = ap (occurs j) (split_at i xs) ∙ occurs_append j (take i xs) (drop i xs) in omega (arith, p)
 
   -- a turn begins and ends
   pub turn_begins : (work : Work) (turn n : ℕ) (row : List ℕ) → IsWork rules count (length rules) work (used_by users (take turn work.found.items)) →
-      slice_get work.found.items turn ≡ Some n → IsUsing rules count users work (take turn work.found.items) n row 0
-  turn_begins work turn n row w at =
+      slice_get work.found.items turn ≡ Some n → slice_get users n ≡ Some row → IsUsing rules count users work (take turn work.found.items) n row
+  turn_begins work turn n row w at there =
       let s = stands_at work.found.items turn n at in
       record {
+        used = [];
+        there = there;
         work = record {
           made = w.made;
           long = w.long;
@@ -362,10 +359,10 @@ module _ (count : ℕ) (rules : List Rule) (users : List (List ℕ)) (a : AreUse
       stands_at (y ∷ ys) zero x e = (ys, ap (λ z. z ∷ ys) (same_Some y x e))
       stands_at (y ∷ ys) (suc i) x e = let r = stands_at ys i x e in (r.0, ap (λ z. y ∷ z) r.1)
 
-  pub turn_ends : (old new : Work) (turn n : ℕ) (row : List ℕ) (i : ℕ) → IsUsing rules count users new (take turn old.found.items) n row i →
-      slice_get old.found.items turn ≡ Some n → slice_get users n ≡ Some row → length row ≤ i →
+  pub turn_ends : (old new : Work) (turn n : ℕ) → IsUsing rules count users new (take turn old.found.items) n [] →
+      slice_get old.found.items turn ≡ Some n →
       IsWork rules count (length rules) new (used_by users (take (turn + 1) new.found.items))
-  turn_ends old new turn n row i s at there l =
+  turn_ends old new turn n s at =
       let w = s.work in
       let t = slice_get_within old.found.items turn n at in
       let base_long = length-take-le turn old.found.items (omega (arith, t)) in
@@ -378,8 +375,8 @@ module _ (count : ℕ) (rules : List Rule) (users : List (List ℕ)) (a : AreUse
         left_is = λ k rule low e.
             let x = w.left_is k rule low e in
             let y = ap (λ z. used_by users z k) taken ∙ used_append users (take turn old.found.items) (n ∷ []) k in
-            let z = ap (occurs k) (get_or_from_slice_get users n row [] there) in
-            let v = ap (occurs k) (take_all i row l) in omega (arith, x, y, z, v);
+            let z = ap (occurs k) (get_or_from_slice_get users n (s.used ++ []) [] s.there ∙ append-nil s.used) in
+            omega (arith, x, y, z);
         closed = w.closed;
       }
     where
@@ -629,10 +626,6 @@ few_found rules count to work used w =
     let a = count_few work.marks.items in
     let b = w.made.counted in
     let c = w.made.long in omega (arith, a, b, c)
-
-pub user_inside : (rules : List Rule) (count : ℕ) (users : List (List ℕ)) (n : ℕ) (row : List ℕ) (i k : ℕ) → AreUsers count rules users →
-    slice_get users n ≡ Some row → i < length row → k ≡ get_or row i k → k < length rules
-user_inside rules count users n row i k a there l read = a.inside n k row there (contains_from_at row i k (read_member row i k l read))
 
 pub false_not_true : false ≡ true → ⊥
 false_not_true e = cc

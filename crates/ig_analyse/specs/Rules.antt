@@ -1,7 +1,8 @@
 -- Rules that make numbers of numbers: those of the alternatives of a core grammar, what is made by rules, and what a work
 -- list knows of it.
-use Rattle.std.specs.Prelude.{◌≡◌, ◌↔◌, ℕ, suc, ◌+◌, ◌-◌, ◌<◌, ◌≤◌, List, [], ◌∷◌, ◌++◌, length, take, set, get_or, slice_get, Contains, Bool, true, false, ◌&&◌, ◌==◌, if◌then◌else◌, Some}
+use Rattle.std.specs.Prelude.{◌≡◌, ◌↔◌, ℕ, suc, ◌+◌, ◌-◌, ◌<◌, ◌≤◌, List, [], ◌∷◌, ◌++◌, length, set, get_or, slice_get, Contains, Bool, true, false, ◌&&◌, ◌==◌, if◌then◌else◌, Some}
 use Rattle.std.specs.List.{flat_map}
+use Rattle.ig_arena.specs.Cells.{longer_at}
 use Rattle.ig_item.specs.declared.core_grammar.Nonterminal.{Nonterminal}
 use Rattle.ig_item.specs.declared.core_grammar.CoreAlt.{CoreAlt}
 use Rattle.ig_analyse.specs.Steps.{callees, has_terminal}
@@ -85,10 +86,12 @@ abbrev pub used_by : List (List ℕ) → List ℕ → ℕ → ℕ
 used_by users [] k = 0
 used_by users (n ∷ ns) k = occurs k (get_or users n []) + used_by users ns k
 
--- the number after these is found, and its first users were used
-pub record IsUsing (rules : List Rule) (count : ℕ) (users : List (List ℕ)) (now : Work) (base : List ℕ) (n : ℕ) (row : List ℕ) (i : ℕ) :
+-- the number after these is found, and of its users all but the last ones, which are left, were used
+pub record IsUsing (rules : List Rule) (count : ℕ) (users : List (List ℕ)) (now : Work) (base : List ℕ) (n : ℕ) (left : List ℕ) :
     Type 0 where
-  pub work : IsWork rules count (length rules) now (λ k. used_by users base k + occurs k (take i row))
+  pub used : List ℕ
+  pub there : slice_get users n ≡ Some (used ++ left)
+  pub work : IsWork rules count (length rules) now (λ k. used_by users base k + occurs k used)
   pub behind : List ℕ
   pub parted : now.found.items ≡ base ++ n ∷ behind
 
@@ -104,7 +107,7 @@ pub record Begins (rule : Rule) (old new : Work) : Type 0 where
 -- rule k is added to the lists of these numbers
 abbrev pub added_users : ℕ → List (List ℕ) → List ℕ → List (List ℕ)
 added_users k users [] = users
-added_users k users (n ∷ ns) = added_users k (set users n (get_or users n [] ++ k ∷ [])) ns
+added_users k users (n ∷ ns) = added_users k (longer_at users n k) ns
 
 -- exactly what is derived is marked
 pub record MarkDerived (count : ℕ) (rules : List Rule) (marks : List Bool) : Type 0 where

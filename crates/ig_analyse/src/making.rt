@@ -1,7 +1,7 @@
 //! Which numbers are made by rules, by a work list: each rule has a count of its callees that are
-//! left, and each number a list of the rules that call it. Each callee of each rule is counted down
+//! left, and each number a chain of the rules that call it. Each callee of each rule is counted down
 //! once. This is the linear closure of Horn rules of Dowling and Gallier.
-ghost use Rattle.std.specs.Prelude.{◌≡◌, ◌<◌, ◌+◌, ◌++◌, ◌∷◌, [], ℕ, Some, length, set, get_or};
+ghost use Rattle.std.specs.Prelude.{◌≡◌, ◌<◌, ◌+◌, [], ℕ, Some, length};
 ghost use Rattle.std.specs.Prelude.{replicate, slice_get, take, Contains, IfOk, OnOk};
 ghost use Rattle.ig_analyse.specs.Facts.{IsMade};
 ghost use Rattle.ig_analyse.specs.Marks.{MarkExactly};
@@ -10,12 +10,15 @@ ghost use Rattle.ig_analyse.specs.Rules.{Marking, Uses, added_users, used_by};
 ghost use Rattle.ig_analyse.specs.declared.rules.Rule.{Rule};
 
 use crate::rules::{Rule, rules_of};
+use ig_arena::{Chains, Id};
 use ig_item::Core;
-use ig_text::Sequence;
 use std::alloc::{AllocError, Global};
 
-/// The numbers of the rules that call one number, each as often as it does.
-type Users = Sequence<usize>;
+/// The kind of the numbers that rules call.
+struct Callees;
+
+/// For each number the rules that call it, by their numbers, each as often as it does.
+type Users = Chains<Callees, usize>;
 
 /// How many callees of each rule are left; the marks of what is made, and what is made in the order
 /// in which it was found.
@@ -31,32 +34,34 @@ pub struct Work {
 pub fn made(alloc: Global, core: &Core, bare: bool) -> Result<Vec<bool>, AllocError>
     ensures { IfOk result (λ marks. MarkExactly core.now (IsMade core.now bare) marks.items) }
 {
-    let count = core.nonterminals() as usize;
+    let count = core.nonterminals();
     let rules = rules_of(alloc, core, bare)?;
     let marks = derived(alloc, rules.as_slice(), count)?;
     Ok(marks)
 }
 
 /// Marks the numbers below the count that are made by the rules. Refused for want of memory.
-fn derived(alloc: Global, rules: &[Rule], count: usize) -> Result<Vec<bool>, AllocError>
+fn derived(alloc: Global, rules: &[Rule], count: u32) -> Result<Vec<bool>, AllocError>
     requires { AreInside count rules.now }
     ensures { IfOk result (λ marks. MarkDerived count rules.now marks.items) }
 {
-    let users = users_of(alloc, rules, count)?;
-    let mut work = Work::begin(alloc, rules, count)?;
-    for turn in 0..count {
+    let callers = users_of(alloc, rules, count)?;
+    let users = &callers;
+    let mut work = Work::begin(alloc, rules, count as usize)?;
+    for turn in 0..count as usize {
         let Some(number) = work.at(turn) else {
             return Ok(work.marks);
         };
-        work.take(rules, users.as_slice(), turn, number)?;
+        let number = number as u32;
+        work.take(rules, users, turn, number)?;
     }
     Ok(work.marks)
 }
 
 /// The rules that call each number below the count. Refused for want of memory.
-fn users_of(alloc: Global, rules: &[Rule], count: usize) -> Result<Vec<Users>, AllocError>
+fn users_of(alloc: Global, rules: &[Rule], count: u32) -> Result<Users, AllocError>
     requires { AreInside count rules.now }
-    ensures { IfOk result (λ users. AreUsers count rules.now users.items) }
+    ensures { IfOk result (λ users. AreUsers count rules.now users.lists) }
 {
     let mut users = no_users(alloc, count)?;
     for (number, rule) in rules.iter().enumerate() {
@@ -66,34 +71,27 @@ fn users_of(alloc: Global, rules: &[Rule], count: usize) -> Result<Vec<Users>, A
 }
 
 /// No rule calls any number.
-fn no_users(alloc: Global, count: usize) -> Result<Vec<Users>, AllocError>
-    ensures { IfOk result (λ users. users.items ≡ replicate count []) }
+fn no_users(alloc: Global, count: u32) -> Result<Users, AllocError>
+    ensures { IfOk result (λ users. users.lists ≡ replicate count []) }
 {
-    let mut users = Vec::new(alloc);
+    let mut users = Chains::new(alloc);
     for number in 0..count {
-        users.push(Sequence::new(alloc))?;
+        users.add_head()?;
     }
     Ok(users)
 }
 
 /// The rule of that number calls these.
-fn add_users(users: &mut Vec<Users>, callees: &[u32], number: usize) -> Result<(), AllocError>
-    requires { (m : ℕ) → Contains callees.now m → m < length users.old.items }
-    ensures { OnOk result (users.new.items ≡ added_users number users.old.items callees.now) }
+fn add_users(users: &mut Users, callees: &[u32], number: usize) -> Result<(), AllocError>
+    requires { (m : ℕ) → Contains callees.now m → m < length users.old.lists }
+    ensures { OnOk result (users.new.lists ≡ added_users number users.old.lists callees.now) }
 {
     for callee in callees {
-        add_user(users, *callee as usize, number)?;
+        if let Err((_, refused)) = users.add(Id::of(*callee), number) {
+            return Err(refused);
+        }
     }
     Ok(())
-}
-
-/// The rule of that number calls this one.
-fn add_user(users: &mut Vec<Users>, callee: usize, number: usize) -> Result<(), AllocError>
-    requires { callee < length users.old.items }
-    ensures { OnOk result (users.new.items ≡
-        set users.old.items callee (get_or users.old.items callee [] ++ number ∷ [])) }
-{
-    users[callee].push(number).map_err(|refused| refused.1)
 }
 
 impl Work {
@@ -137,21 +135,21 @@ impl Work {
     fn take(
         &mut self,
         rules: &[Rule],
-        users: &[Users],
+        users: &Users,
         turn: usize,
-        number: usize,
+        number: u32,
     ) -> Result<(), AllocError>
-        requires number { number < length users.now }
-        requires inside { AreInside (length users.now) rules.now }
-        requires users { AreUsers (length users.now) rules.now users.now }
-        requires work { IsWork rules.now (length users.now) (length rules.now) self.old
-            (used_by users.now (take turn self.old.found.items)) }
+        requires number { number < length users.now.lists }
+        requires inside { AreInside (length users.now.lists) rules.now }
+        requires users { AreUsers (length users.now.lists) rules.now users.now.lists }
+        requires work { IsWork rules.now (length users.now.lists) (length rules.now) self.old
+            (used_by users.now.lists (take turn self.old.found.items)) }
         requires here { slice_get self.old.found.items turn ≡ Some number }
-        ensures { OnOk result (IsWork rules.now (length users.now) (length rules.now) self.new
-            (used_by users.now (take (turn + 1) self.new.found.items))) }
+        ensures { OnOk result
+            (IsWork rules.now (length users.now.lists) (length rules.now) self.new
+            (used_by users.now.lists (take (turn + 1) self.new.found.items))) }
     {
-        let row = users[number].as_slice();
-        for rule in row {
+        for rule in users.walk(Id::of(number)) {
             self.use_rule(rules, *rule)?;
         }
         Ok(())

@@ -4,5 +4,5 @@ use Rattle.ig_analyse.proofs.making.add_users.Given as goal
 
 abbrev pub invariant-loop-callee : goal.invariant-loop-callee
 invariant-loop-callee l =
-    (added_users l.number l.users.items (drop l.callee-index l.callees) ≡ added_users l.number l.fn.users.items l.callees) ×
-    (length l.users.items ≡ length l.fn.users.items)
+    (added_users l.number l.users.lists (drop l.callee-index l.callees) ≡ added_users l.number l.fn.users.lists l.callees) ×
+    (length l.users.lists ≡ length l.fn.users.lists)
